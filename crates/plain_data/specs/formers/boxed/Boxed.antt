@@ -1,0 +1,58 @@
+-- How a `Boxed` holds its value, so that a type may lead back to itself through one.
+use mathlib.Core.Path.{refl}
+use mathlib.Core.Former.{Former, this, const, pair, via}
+use base.Stored.{gnil}
+use base.Fml.{ftrue}
+use denote.RattleType.{RattleType}
+use denote.Memory.{part_of}
+use denote.RawPtr.{Ptr}
+use denote.Sharing.{nothing}
+use denote.HoleLaws.{Alike}
+use denote.HolePlaces.{Recodes, struct_places, laid, one_value}
+use denote.Hole.Fix.{over}
+use denote.Param.Weighed.{Weighed}
+use denote.Model.Placed.{view_places}
+use Rattle.std.specs.declared.boxed.Box.{Box}
+use Rattle.std.specs.contracts.boxed.Box as box
+use Rattle.std.specs.declared.alloc.Global.{Global}
+use Rattle.std.specs.contracts.alloc.Global as heap
+use Rattle.std.specs.contracts.impls.GlobalAllocator.TheImpl.{ghosts}
+use Rattle.plain_data.specs.declared.boxed.Boxed.TheInside.{Inside}
+use Rattle.plain_data.specs.declared.boxed.Boxed.TheView.{view, invariant}
+use Rattle.plain_data.specs.contracts.boxed.Boxed as made
+use Rattle.plain_data.specs.contracts.boxed.Boxed.TheInside as inner
+
+-- contracts see the value itself
+abbrev pub the_former : Former {0} → Former {0}
+the_former value = value
+
+abbrev pub the_weighed : {value : Former {0}} → Weighed value → Weighed (the_former value)
+the_weighed weighed = weighed
+
+-- the one field is a `Box`: a pointer, an allocator, and the value
+abbrev inside : Former {0}
+inside = via (pair (const (Ptr × Global)) this) Inside (λ X b. ((b.inner.ptr, b.inner.alloc), b.inner.value))
+    (λ X parts. record { inner = record { ptr = parts.0.0; alloc = parts.0.1; value = parts.1 } }) (λ X b. refl) (λ X parts. refl)
+
+abbrev holding : {X Y : Type 0} → Box X Global → Y → Box Y Global
+holding b value = record { ptr = b.ptr; alloc = b.alloc; value = value }
+
+abbrev box_of : RattleType → RattleType
+box_of R = box.the_row R heap.the_row ghosts
+
+module _ (R S : RattleType) (h : R.Denot → S.Denot) where
+  box_places : Alike R S h → Alike (box_of R) (box_of S) (λ b. holding b (h b.value))
+  unfolding part_of
+  box_places alike = record {
+    mir_same = λ i. (box_of (one_value R (alike.mir_same i) (λ _. ftrue) (λ _ _. nothing) gnil)).mir;
+    own_same = λ b i. (box_of (one_value R (alike.mir_same i) (alike.own_same b.value i) (alike.shr_same b.value i) gnil)).own_val (holding b tt);
+    shr_same = λ b i. (box_of (one_value R (alike.mir_same i) (alike.own_same b.value i) (alike.shr_same b.value i) gnil)).shr_at (holding b tt);
+  }
+
+  pub the_places : Alike R S h → Alike (made.the_row R) (made.the_row S) ((the_former this).map R.Denot S.Denot h)
+  the_places alike = view_places inside this view (λ X Y k b. refl) (λ X b. refl) R.Denot S.Denot h (made.the_row R).coded (made.the_row S).coded
+      (invariant R.Denot) (invariant S.Denot) (λ b p q. refl) (λ b p q. refl) (λ b e. tt) (λ b e. tt) (over (inner.the_row R)) (over (inner.the_row S))
+      (struct_places (inner.the_type R) (inner.the_type S) ((λ b. holding b (h b.value)), tt) _ (λ d. refl) refl (laid _ _ _ (box_places alike), tt))
+
+  pub the_codes_placed : Recodes R S h → Recodes (made.the_row R) (made.the_row S) ((the_former this).map R.Denot S.Denot h)
+  the_codes_placed recodes value = recodes value
