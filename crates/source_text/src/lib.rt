@@ -1,0 +1,6 @@
+//! Source text: its characters, the characters of names, and where a byte stands in lines and columns.
+#![tactic(auto)]
+
+mod text;
+
+pub use text::{characters, is_blank, is_name_character, starts_word};
