@@ -1,0 +1,4 @@
+//! Signatures, read: the classes that a text in UTF-8 declares.
+#![tactic(auto)]
+
+mod token;
