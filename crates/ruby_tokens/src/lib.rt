@@ -1,0 +1,6 @@
+//! The tokens of Ruby text.
+#![tactic(auto)]
+
+mod token;
+
+pub use token::{Kind, Token};
