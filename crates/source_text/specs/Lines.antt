@@ -1,5 +1,6 @@
 -- Lines and columns of a text.
-use Rattle.std.specs.Prelude.{ℕ, ◌+◌, ◌==◌, if◌then◌else◌, List, [], ◌∷◌, take, min, length, count_by}
+use Rattle.std.specs.Prelude.{◌≡◌, ℕ, ◌+◌, ◌≤◌, ◌==◌, if◌then◌else◌, List, [], ◌∷◌, take, length, count_by}
+use Rattle.source_text.specs.declared.lines.Cursor.{Cursor}
 
 -- how many bytes stand behind the last newline
 abbrev pub since_newline : ℕ → List ℕ → ℕ
@@ -13,3 +14,9 @@ line_at text at = count_by (λ b. b == 10) (take at text) + 1
 -- the column of a byte, in bytes from 1
 abbrev pub column_at : List ℕ → ℕ → ℕ
 column_at text at = since_newline 0 (take at text) + 1
+
+-- the cursor stands in the text, and knows its line and its column
+pub record IsCursor (text : List ℕ) (c : Cursor) : Type 0 where
+  pub within : c.at ≤ length text
+  pub line : c.line ≡ line_at text c.at
+  pub column : c.column ≡ column_at text c.at
