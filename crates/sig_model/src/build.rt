@@ -70,6 +70,48 @@ fn plain_fun_ty(alloc: Global, required: Many<Arg>, outcome: Ty) -> FunTy
     }
 }
 
+/// Positional parameters of these types, without names.
+#[tactic(auto, using(crate::proofs::Unnamed::plain_unnamed))]
+fn unnamed_args(alloc: Global, required: Many<Ty>) -> Result<Many<Arg>, NoMemory>
+    ensures { IfOk result (λ args. plain_args args ≡ unnamed (plain_tys required)) }
+{
+    let mut args = Many::new(alloc);
+    for ty in required.into_vec() {
+        args.push(Arg { ty, name: None })?;
+    }
+    Ok(args)
+}
+
+/// A method of one overload: an instance method without type parameters, public by default, whose
+/// positional parameters have these types and no names.
+#[tactic(auto, using(crate::specs::Plain::plain_decls_of))]
+pub fn plain_method_part(
+    alloc: Global,
+    place: Place,
+    name: Word,
+    required: Many<Ty>,
+    outcome: Ty,
+) -> Result<Part, NoMemory>
+    ensures { IfOk result (λ part. plain_parts (part ∷ []) ≡ member place no_notes (method_of name (unnamed (plain_tys required)) (plain_ty outcome)) no_parts) }
+{
+    let args = unnamed_args(alloc, required)?;
+    let mut overloads = Many::new(alloc);
+    overloads.push(MethodTy {
+        params: Many::new(alloc),
+        fun: plain_fun_ty(alloc, args, outcome),
+    })?;
+    Ok(Part::Member {
+        place,
+        notes: empty_notes(alloc),
+        member: Member::Method {
+            vis: None,
+            single: false,
+            name,
+            overloads,
+        },
+    })
+}
+
 /// A class without parameters, superclass and notes.
 #[tactic(auto, using(crate::specs::Plain::plain_decls_of))]
 pub fn class_decl(
