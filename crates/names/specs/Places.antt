@@ -7,9 +7,10 @@ use Rattle.std.specs.Cmp.Lexicographic.{pointwise}
 abbrev pub same_name : List ℕ → List ℕ → Bool
 same_name a b = pointwise nat_eq a b
 
+-- a name stands somewhere in the list
 abbrev pub is_among : List ℕ → List (List ℕ) → Bool
 is_among name names = list_any (same_name name) names
 
--- where a name stands first
+-- the place, from 0, where a name stands first
 abbrev pub place_of : List ℕ → List (List ℕ) → Option ℕ
 place_of name names = position (same_name name) names

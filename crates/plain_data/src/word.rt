@@ -1,4 +1,4 @@
-ghost use Rattle.std.specs.Prelude.{◌≡◌, ◌++◌, [], length, nat_eq, encode_utf8, IfOk, OnOk, OnErr};
+ghost use Rattle.std.specs.Prelude.{◌≡◌, ◌↔◌, ◌++◌, [], length, nat_eq, IsTrue, encode_utf8, IfOk, OnOk, OnErr};
 ghost use Rattle.std.specs.Cmp.Lexicographic.{pointwise, nat_list_eq_equiv};
 ghost use Rattle.std.specs.Cmp.{partial_equiv_from_equiv};
 ghost use Rattle.std.specs.Cmp.Rules.{comparing, hashing};
@@ -10,7 +10,9 @@ use std::alloc::{AllocError, Global};
 use std::hash::{Hash, Hasher};
 use std::marker::Model;
 
-/// A text that contracts see as the list of its bytes.
+/// A text in UTF-8 that contracts see as the list of its bytes.
+///
+/// What may need memory answers `NoMemory`, and then has changed nothing.
 #[derive(Debug, Drop)]
 pub struct Word {
     text: String,
@@ -25,7 +27,7 @@ impl Model for Word {
 }
 
 impl Word {
-    /// The empty text, which takes no memory.
+    /// The empty text. Takes no memory.
     pub fn new(alloc: Global) -> Word
         ensures { result ≡ [] }
     {
@@ -34,7 +36,7 @@ impl Word {
         }
     }
 
-    /// Adds a character at the end.
+    /// Adds a character at the end, which is one to four bytes.
     pub fn push(&mut self, c: char) -> Result<(), NoMemory>
         ensures ok { OnOk result (self.new ≡ self.old ++ encode_utf8 c) }
         ensures err { OnErr result (self.new ≡ self.old) }
@@ -52,6 +54,7 @@ impl Word {
         Ok(())
     }
 
+    /// A copy of this text.
     pub fn of(alloc: Global, text: &str) -> Result<Word, NoMemory>
         ensures { IfOk result (λ w. w ≡ text.now) }
     {
@@ -60,22 +63,32 @@ impl Word {
         })
     }
 
+    /// The text.
     pub fn as_str(&self) -> &str
         ensures { result.now ≡ self.now }
     {
         self.text.as_str()
     }
 
+    /// The bytes of the text.
     pub fn as_bytes(&self) -> &[u8]
         ensures { result.now ≡ self.now }
     {
         self.text.as_bytes()
     }
 
+    /// How many bytes the text has.
     pub fn len(&self) -> usize
         ensures { result ≡ length self.now }
     {
         self.text.len()
+    }
+
+    /// The text has no byte.
+    pub fn is_empty(&self) -> bool
+        ensures { IsTrue result ↔ (self.now ≡ []) }
+    {
+        self.text.is_empty()
     }
 }
 
