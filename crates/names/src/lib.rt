@@ -64,6 +64,13 @@ impl Names {
         Ok(added)
     }
 
+    /// Whether a name is there.
+    pub fn contains(&self, name: &Word) -> bool
+        ensures { result ≡ is_among name.now self.now }
+    {
+        self.words.contains(name)
+    }
+
     /// The place of a name in the list, from 0, or `None` where it is not there.
     pub fn place_of(&self, name: &Word) -> Option<usize>
         ensures { result ≡ place_of name.now self.now }

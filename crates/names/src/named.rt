@@ -36,7 +36,7 @@ pub fn all_among<T: Named>(items: &[T], names: &Names) -> bool
     ensures { IsTrue result ↔ AllByRecursion (λ n. is_among n names.now ≡ true) (map T.name_of items.now) }
 {
     for item in items {
-        if names.place_of(item.name()).is_none() {
+        if !names.contains(item.name()) {
             return false;
         }
     }
