@@ -1,0 +1,5 @@
+mod Steps
+mod Bodies
+mod Methods
+mod Classes
+mod Files
