@@ -34,10 +34,7 @@ fn after_class(
                 start,
                 definitions: Many::new(alloc),
             };
-            Ok(Some(Progress::Reading(ClassReader::Between(
-                opening,
-                Turn::Taken,
-            ))))
+            Ok(Some(Progress::Reading(ClassReader::Between(opening, Turn::Taken))))
         }
         _ => Ok(None),
     }

@@ -89,10 +89,7 @@ fn in_body(
 
 impl MethodReader {
     /// Takes the next token, if the method may go on with it.
-    pub fn next(
-        self,
-        token: &Token,
-    ) -> Result<Option<Progress<MethodReader, Definition>>, NoMemory>
+    pub fn next(self, token: &Token) -> Result<Option<Progress<MethodReader, Definition>>, NoMemory>
         ensures { IfOk result (λ o. o ≡ machine.method_next self token.now) }
     {
         match self {
