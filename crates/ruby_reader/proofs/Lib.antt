@@ -3,3 +3,4 @@ mod Bodies
 mod Methods
 mod Classes
 mod Files
+mod Texts
