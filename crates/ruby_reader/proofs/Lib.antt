@@ -1,0 +1,6 @@
+mod Steps
+mod Bodies
+mod Methods
+mod Classes
+mod Files
+mod Texts
