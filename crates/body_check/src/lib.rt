@@ -1,8 +1,11 @@
 //! Ruby bodies, checked against the signature of their classes.
 #![tactic(auto)]
 
+mod bodies;
+mod named;
 mod table;
 mod ty;
 
-pub use table::{ClassMethods, MethodEntry};
+pub use bodies::check;
+pub use table::{ClassMethods, MethodEntry, classes_of};
 pub use ty::ValueType;

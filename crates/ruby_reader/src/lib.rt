@@ -6,6 +6,7 @@ mod class;
 mod file;
 mod method;
 mod progress;
+mod named;
 mod tree;
 
 pub use file::openings_of;
