@@ -1,6 +1,7 @@
 -- When a program defines what its signature declares, and which of its bodies don't fit.
 use Rattle.std.specs.Prelude.{◌≡◌, ℕ, Bool, true, false, if◌then◌else◌, List, [], ◌∷◌, map, Option, Some, None}
-use Rattle.std.specs.List.{IsDistinct, AllByRecursion, flat_map}
+use Rattle.std.specs.List.{IsDistinct, AllByRecursion, flat_map, find}
+use Rattle.std.specs.Option.{option_map, option_map_or}
 use Rattle.names.specs.Places.{same_name, is_among}
 use Rattle.sig_model.specs.declared.diag.Diag.{Diag}
 use Rattle.sig_model.specs.declared.diag.DiagId.TheVariants.{MethodBodyTypeMismatch}
@@ -30,15 +31,13 @@ opened_names = map (λ o. o.name)
 abbrev pub defined_names : List Definition → List (List ℕ)
 defined_names = map (λ d. d.name)
 
--- the methods of the class with a name
+-- the methods of the first class with a name
 abbrev pub methods_in : List ℕ → List ClassMethods → List MethodEntry
-methods_in name [] = []
-methods_in name (c ∷ cs) = if same_name name c.name then c.methods else methods_in name cs
+methods_in name classes = option_map_or (λ c. c.methods) (find (λ c. same_name name c.name) classes) []
 
--- what the method with a name gives
+-- what the first method with a name gives
 abbrev pub gives_in : List ℕ → List MethodEntry → Option ValueType
-gives_in name [] = None
-gives_in name (m ∷ ms) = if same_name name m.name then Some m.gives else gives_in name ms
+gives_in name methods = option_map (λ m. m.gives) (find (λ m. same_name name m.name) methods)
 
 -- an opening defines just the methods that its class declares
 abbrev pub IsDefined : List ClassMethods → Opening → Type 0

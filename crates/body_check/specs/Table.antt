@@ -26,7 +26,7 @@ type_of (base b) = base_type b
 type_of _ = ty.Void
 
 abbrev pub fun_result : PlainFun → ValueType
-fun_result (function required optional rest trailing keys key_rest block result) = type_of result
+fun_result (function required optional more trailing keys more_keys with result) = type_of result
 
 -- what the first overload gives
 abbrev pub result_of : List PlainMethod → ValueType
