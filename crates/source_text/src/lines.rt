@@ -1,5 +1,5 @@
 ghost use Rattle.std.specs.Prelude.{◌≡◌, ◌<◌, ◌≤◌, ◌-◌, ◌^◌, min, length};
-ghost use Rattle.source_text.specs.Lines.{IsCursor};
+ghost use Rattle.source_text.specs.Lines.{IsCursor, line_at, column_at};
 
 /// A byte of a text, with its line and its column: both count from 1, columns in bytes.
 #[derive(Clone, Copy, Debug, PartialEq, Eq)]
@@ -26,6 +26,8 @@ pub fn move_to(text: &[u8], from: Cursor, at: usize) -> Cursor
     requires from { IsCursor text.now from }
     ensures at { result.at ≡ min at (length text.now) }
     ensures cursor { IsCursor text.now result }
+    ensures line { result.line ≡ line_at text.now at }
+    ensures column { result.column ≡ column_at text.now at }
 {
     let end = at.min(text.len());
     if end < from.at {
