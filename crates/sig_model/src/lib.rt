@@ -2,6 +2,7 @@
 #![tactic(auto)]
 
 pub mod build;
+pub mod copy;
 pub mod decl;
 pub mod diag;
 pub mod place;
