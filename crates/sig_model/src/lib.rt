@@ -5,6 +5,7 @@ pub mod build;
 pub mod copy;
 pub mod decl;
 pub mod diag;
+pub mod height;
 pub mod place;
 pub mod ty;
 
