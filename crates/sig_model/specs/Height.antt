@@ -42,4 +42,5 @@ abbrev mutual
   -- the highest of the types of a function
   pub fun_height : PlainFun → ℕ
   fun_height (plain.function r o e t k f b u) =
-      max (max (max (max (max (max (max (tallest_arg r) (tallest_arg o)) (rest_height e)) (tallest_arg t)) (tallest_key k)) (rest_height f)) (block_height b)) (height u)
+      let listed = max (max (max (tallest_arg r) (tallest_arg o)) (rest_height e)) (tallest_arg t) in
+      max (max (max (max listed (tallest_key k)) (rest_height f)) (block_height b)) (height u)

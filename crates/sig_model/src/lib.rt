@@ -7,6 +7,8 @@ pub mod decl;
 pub mod diag;
 pub mod height;
 pub mod place;
+#[cfg(test)]
+mod tests;
 pub mod ty;
 
 pub use plain_data::{Boxed, Many, NoMemory, Word};
