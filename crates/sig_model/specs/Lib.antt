@@ -1,4 +1,5 @@
 pub mod Built
+pub mod Height
 pub mod Plain
 pub mod PlainDecl
 pub mod PlainDeclLaws

@@ -60,3 +60,13 @@ plain_parts (p ∷ ps) = part_before p (plain_parts ps)
 abbrev pub plain_decls : List a_decl.Decl → PlainDecls
 plain_decls [] = no_decls
 plain_decls (d ∷ ds) = more_decls (plain_decl d) (plain_decls ds)
+
+-- the parts of one list, and then those of another
+abbrev pub append_parts : PlainParts → PlainParts → PlainParts
+append_parts no_parts qs = qs
+append_parts (inner d ps) qs = inner d (append_parts ps qs)
+append_parts (member p n m ps) qs = member p n m (append_parts ps qs)
+
+abbrev pub append_decls : PlainDecls → PlainDecls → PlainDecls
+append_decls no_decls es = es
+append_decls (more_decls d ds) es = more_decls d (append_decls ds es)

@@ -1,5 +1,5 @@
 -- The laws of the plain twins of declarations: one for each variant and struct.
-use Rattle.std.specs.Prelude.{◌≡◌, refl, List, Option}
+use Rattle.std.specs.Prelude.{◌≡◌, refl, List, [], ◌∷◌, ◌++◌, Option}
 use Rattle.std.proofs.Common.{ap, ◌∙◌}
 use Rattle.sig_model.specs.declared.place.Place.{Place}
 use Rattle.sig_model.specs.declared.ty.Ty.{Ty}
@@ -14,7 +14,7 @@ use Rattle.sig_model.specs.declared.decl.DeclBody.TheBlock.{hidden-the_row-Part-
 use Rattle.sig_model.specs.PlainTy.{plain_ty, plain_tys}
 use Rattle.sig_model.specs.PlainMember.{plain_params, plain_member, plain_option}
 use Rattle.sig_model.specs.PlainDecl as plain
-use Rattle.sig_model.specs.PlainDecl.{PlainParts, plain_body, plain_decl, plain_parts, part_row, part_before}
+use Rattle.sig_model.specs.PlainDecl.{PlainParts, plain_body, plain_decl, plain_parts, plain_decls, part_row, part_before, append_parts, append_decls}
 
 part_row_is : (m : _) (r : a_body.Row_of-Part m) → part_row r ≡ plain_parts (a_body.items-the_row-Part m r)
 unfolding plain_body
@@ -50,3 +50,33 @@ part_before-Inner d ps = refl
 
 pub part_before-Member : (p : Place) (n : Notes) (m : Member) (ps : PlainParts) → part_before (a_part.Member p n m) ps ≡ plain.member p n (plain_member m) ps
 part_before-Member p n m ps = refl
+
+part_before-append : (p : a_part.Part) (xs ys : PlainParts) → part_before p (append_parts xs ys) ≡ append_parts (part_before p xs) ys
+part_before-append (a_part.Inner' p n b) xs ys = refl
+part_before-append (a_part.Member p n m) xs ys = refl
+
+pub plain_parts-append : (xs ys : List a_part.Part) → plain_parts (xs ++ ys) ≡ append_parts (plain_parts xs) (plain_parts ys)
+plain_parts-append [] ys = refl
+plain_parts-append (x ∷ xs) ys = ap (part_before x) (plain_parts-append xs ys) ∙ part_before-append x (plain_parts xs) (plain_parts ys)
+
+pub plain_decls-append : (xs ys : List a_decl.Decl) → plain_decls (xs ++ ys) ≡ append_decls (plain_decls xs) (plain_decls ys)
+plain_decls-append [] ys = refl
+plain_decls-append (x ∷ xs) ys = ap (plain.more_decls (plain_decl x)) (plain_decls-append xs ys)
+
+pub append_parts-none : (xs : plain.PlainParts) → append_parts xs plain.no_parts ≡ xs
+append_parts-none plain.no_parts = refl
+append_parts-none (plain.inner d xs) = ap (plain.inner d) (append_parts-none xs)
+append_parts-none (plain.member p n m xs) = ap (plain.member p n m) (append_parts-none xs)
+
+pub append_parts-assoc : (xs ys zs : plain.PlainParts) → append_parts (append_parts xs ys) zs ≡ append_parts xs (append_parts ys zs)
+append_parts-assoc plain.no_parts ys zs = refl
+append_parts-assoc (plain.inner d xs) ys zs = ap (plain.inner d) (append_parts-assoc xs ys zs)
+append_parts-assoc (plain.member p n m xs) ys zs = ap (plain.member p n m) (append_parts-assoc xs ys zs)
+
+pub append_decls-none : (xs : plain.PlainDecls) → append_decls xs plain.no_decls ≡ xs
+append_decls-none plain.no_decls = refl
+append_decls-none (plain.more_decls d xs) = ap (plain.more_decls d) (append_decls-none xs)
+
+pub append_decls-assoc : (xs ys zs : plain.PlainDecls) → append_decls (append_decls xs ys) zs ≡ append_decls xs (append_decls ys zs)
+append_decls-assoc plain.no_decls ys zs = refl
+append_decls-assoc (plain.more_decls d xs) ys zs = ap (plain.more_decls d) (append_decls-assoc xs ys zs)

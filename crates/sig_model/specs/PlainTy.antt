@@ -121,3 +121,16 @@ plain_rest (Some a) = rest (plain_ty a.ty) a.name
 abbrev pub plain_block : Option block_ty.BlockTy → PlainBlock
 plain_block None = no_block
 plain_block (Some b) = block (block_ty.out-BlockTy b).needed (plain_fun (block_ty.out-BlockTy b).fun)
+
+-- the types of one list, and then those of another
+abbrev pub append_tys : PlainTys → PlainTys → PlainTys
+append_tys no_tys us = us
+append_tys (more_tys t ts) us = more_tys t (append_tys ts us)
+
+abbrev pub append_keys : PlainKeys → PlainKeys → PlainKeys
+append_keys no_keys js = js
+append_keys (more_keys k n t ks) js = more_keys k n t (append_keys ks js)
+
+abbrev pub append_args : PlainArgs → PlainArgs → PlainArgs
+append_args no_args bs = bs
+append_args (more_args t n more) bs = more_args t n (append_args more bs)

@@ -1,5 +1,5 @@
 -- The laws of the plain twins of types: one for each variant and struct.
-use Rattle.std.specs.Prelude.{ℕ, ℤ, ◌≡◌, refl, Bool, List, [], ◌∷◌, Option, None, Some}
+use Rattle.std.specs.Prelude.{ℕ, ℤ, ◌≡◌, refl, List, [], ◌∷◌, ◌++◌, Option, None, Some}
 use Rattle.std.proofs.Common.{ap, ◌∙◌, sym}
 use Rattle.sig_model.specs.declared.ty.TypeName.{TypeName}
 use Rattle.sig_model.specs.declared.ty.BaseTy.{BaseTy}
@@ -10,7 +10,7 @@ use Rattle.sig_model.specs.declared.ty.FunTy as fun_ty
 use Rattle.sig_model.specs.declared.ty.BlockTy as block_ty
 use Rattle.sig_model.specs.declared.ty.Ty.TheBlock.{hidden-the_row-Ty-0, hidden-the_row-Ty-1, hidden-the_row-RecKey-2, hidden-the_row-FunTy-3, hidden-the_row-Arg-4, hidden-the_row-BlockTy-5}
 use Rattle.sig_model.specs.PlainTy as plain
-use Rattle.sig_model.specs.PlainTy.{PlainFun, plain_ty, plain_tys, plain_fun, plain_args, plain_keys, plain_rest, plain_block, ty_row, key_row, arg_row, held_rest, held_block, more_tys, more_keys, more_args, function}
+use Rattle.sig_model.specs.PlainTy.{PlainFun, plain_ty, plain_tys, plain_fun, plain_args, plain_keys, plain_rest, plain_block, ty_row, key_row, arg_row, held_rest, held_block, append_tys, append_keys, append_args, more_tys, more_keys, more_args, function}
 
 ty_row_is : (m : _) (r : ty.Row_of-Ty m) → ty_row r ≡ plain_tys (ty.items-the_row-Ty m r)
 unfolding plain_ty
@@ -106,3 +106,46 @@ plain_fun-roll g =
 
 pub plain_fun-out : (f : fun_ty.FunTy) → plain_fun f ≡ plain_fun_parts (fun_ty.out-FunTy f)
 plain_fun-out f = ap plain_fun (sym (fun_ty.roll-out-FunTy f)) ∙ plain_fun-roll (fun_ty.out-FunTy f)
+
+-- a struct of the cycle, made of its fields, has them
+pub out-block : (g : block_ty.BlockTy-F ty.Ty arg.Arg block_ty.BlockTy fun_ty.FunTy key.RecKey) → block_ty.out-BlockTy (block_ty.roll-BlockTy g) ≡ g
+out-block g = block_ty.out-roll-BlockTy g
+
+pub out-fun : (g : fun_ty.FunTy-F ty.Ty arg.Arg block_ty.BlockTy fun_ty.FunTy key.RecKey) → fun_ty.out-FunTy (fun_ty.roll-FunTy g) ≡ g
+out-fun g = fun_ty.out-roll-FunTy g
+
+pub plain_tys-append : (xs ys : List ty.Ty) → plain_tys (xs ++ ys) ≡ append_tys (plain_tys xs) (plain_tys ys)
+plain_tys-append [] ys = refl
+plain_tys-append (x ∷ xs) ys = ap (more_tys (plain_ty x)) (plain_tys-append xs ys)
+
+pub plain_keys-append : (xs ys : List key.RecKey) → plain_keys (xs ++ ys) ≡ append_keys (plain_keys xs) (plain_keys ys)
+plain_keys-append [] ys = refl
+plain_keys-append (x ∷ xs) ys = ap (more_keys x.key x.needed (plain_ty x.ty)) (plain_keys-append xs ys)
+
+pub plain_args-append : (xs ys : List arg.Arg) → plain_args (xs ++ ys) ≡ append_args (plain_args xs) (plain_args ys)
+plain_args-append [] ys = refl
+plain_args-append (x ∷ xs) ys = ap (more_args (plain_ty x.ty) x.name) (plain_args-append xs ys)
+
+pub append_tys-none : (xs : plain.PlainTys) → append_tys xs plain.no_tys ≡ xs
+append_tys-none plain.no_tys = refl
+append_tys-none (more_tys t xs) = ap (more_tys t) (append_tys-none xs)
+
+pub append_tys-assoc : (xs ys zs : plain.PlainTys) → append_tys (append_tys xs ys) zs ≡ append_tys xs (append_tys ys zs)
+append_tys-assoc plain.no_tys ys zs = refl
+append_tys-assoc (more_tys t xs) ys zs = ap (more_tys t) (append_tys-assoc xs ys zs)
+
+pub append_keys-none : (xs : plain.PlainKeys) → append_keys xs plain.no_keys ≡ xs
+append_keys-none plain.no_keys = refl
+append_keys-none (more_keys k n t xs) = ap (more_keys k n t) (append_keys-none xs)
+
+pub append_keys-assoc : (xs ys zs : plain.PlainKeys) → append_keys (append_keys xs ys) zs ≡ append_keys xs (append_keys ys zs)
+append_keys-assoc plain.no_keys ys zs = refl
+append_keys-assoc (more_keys k n t xs) ys zs = ap (more_keys k n t) (append_keys-assoc xs ys zs)
+
+pub append_args-none : (xs : plain.PlainArgs) → append_args xs plain.no_args ≡ xs
+append_args-none plain.no_args = refl
+append_args-none (more_args t n xs) = ap (more_args t n) (append_args-none xs)
+
+pub append_args-assoc : (xs ys zs : plain.PlainArgs) → append_args (append_args xs ys) zs ≡ append_args xs (append_args ys zs)
+append_args-assoc plain.no_args ys zs = refl
+append_args-assoc (more_args t n xs) ys zs = ap (more_args t n) (append_args-assoc xs ys zs)

@@ -92,7 +92,8 @@ pub fn plain_method_part(
     required: Many<Ty>,
     outcome: Ty,
 ) -> Result<Part, NoMemory>
-    ensures { IfOk result (λ part. plain_parts (part ∷ []) ≡ member place no_notes (method_of name (unnamed (plain_tys required)) (plain_ty outcome)) no_parts) }
+    ensures { IfOk result (λ part. plain_parts (part ∷ [])
+        ≡ member place no_notes (method_of name (unnamed (plain_tys required)) (plain_ty outcome)) no_parts) }
 {
     let args = unnamed_args(alloc, required)?;
     let mut overloads = Many::new(alloc);

@@ -2,9 +2,13 @@
 #![tactic(auto)]
 
 pub mod build;
+pub mod copy;
 pub mod decl;
 pub mod diag;
+pub mod height;
 pub mod place;
+#[cfg(test)]
+mod tests;
 pub mod ty;
 
 pub use plain_data::{Boxed, Many, NoMemory, Word};
