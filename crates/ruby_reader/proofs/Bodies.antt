@@ -4,12 +4,11 @@ use Rattle.ruby_tokens.specs.declared.token.Token.{Token}
 use Rattle.ruby_tokens.specs.declared.token.Kind.{Kind}
 use Rattle.ruby_tokens.specs.declared.token.Kind.TheVariants as kind
 use Rattle.ruby_reader.specs.declared.tree.Literal.{Literal}
-use Rattle.ruby_reader.specs.declared.tree.Literal.TheVariants as literal
 use Rattle.ruby_reader.specs.declared.progress.Turn.{Turn}
 use Rattle.ruby_reader.specs.declared.progress.Turn.TheVariants as turn
 use Rattle.ruby_reader.specs.declared.body.BodyReader.{BodyReader}
 use Rattle.ruby_reader.specs.declared.body.BodyReader.TheVariants as body
-use Rattle.ruby_reader.specs.Grammar.{tok, free, taken, IsBreak, break_newline, break_semicolon, IsLiteral, literal_int, literal_str, literal_sym, literal_nil, Closes, closes_end, closes_break, Bodies, body_break, body_literal}
+use Rattle.ruby_reader.specs.Grammar.{tok, free, break_newline, break_semicolon, IsLiteral, literal_int, literal_str, literal_sym, literal_nil, Closes, closes_end, closes_break, Bodies, body_break, body_literal}
 use Rattle.ruby_reader.specs.BodyMachine.{body_next}
 use Rattle.ruby_reader.proofs.Steps.{turn_of, Goes}
 

@@ -10,14 +10,13 @@ use Rattle.ruby_reader.specs.declared.progress.Turn.TheVariants as turn
 use Rattle.ruby_reader.specs.declared.progress.Progress.{Progress}
 use Rattle.ruby_reader.specs.declared.progress.Progress.TheVariants.{Reading, Read}
 use Rattle.ruby_reader.specs.declared.method.MethodReader.{MethodReader}
-use Rattle.ruby_reader.specs.declared.method.MethodReader.TheVariants as method
 use Rattle.ruby_reader.specs.declared.class.ClassReader.{ClassReader}
 use Rattle.ruby_reader.specs.declared.class.ClassReader.TheVariants as class
-use Rattle.ruby_reader.specs.Grammar.{tok, free, taken, IsBreak, break_newline, break_semicolon, Methods, methods_end, methods_break, methods_note, methods_more, Defines, define_bare, define_parens, Opens, opens}
+use Rattle.ruby_reader.specs.Grammar.{tok, taken, break_newline, break_semicolon, Methods, methods_end, methods_break, methods_note, methods_more, Defines, Opens, opens}
 use Rattle.ruby_reader.specs.MethodMachine.{method_next}
 use Rattle.ruby_reader.specs.ClassMachine.{class_next, with_method, with_definition}
 use Rattle.ruby_reader.proofs.Steps.{turn_of, Goes}
-use Rattle.ruby_reader.proofs.Methods.{MethodLeft, NameLeft, name_left, method_goes, method_left, method_ends, name_of_define, define_of_name}
+use Rattle.ruby_reader.proofs.Methods.{MethodLeft, NameLeft, method_goes, method_left, method_ends, name_of_define, define_of_name}
 
 -- a class with these methods behind those that it has
 abbrev pub with_more : Opening → List Definition → Opening

@@ -11,11 +11,10 @@ use Rattle.ruby_reader.specs.declared.progress.Turn.TheVariants as turn
 use Rattle.ruby_reader.specs.declared.progress.Progress.{Progress}
 use Rattle.ruby_reader.specs.declared.progress.Progress.TheVariants.{Reading, Read}
 use Rattle.ruby_reader.specs.declared.class.ClassReader.{ClassReader}
-use Rattle.ruby_reader.specs.declared.class.ClassReader.TheVariants as class
 use Rattle.ruby_reader.specs.declared.file.Place.{Place}
 use Rattle.ruby_reader.specs.declared.file.Place.TheVariants as place
 use Rattle.ruby_reader.specs.declared.file.FileReader.{FileReader}
-use Rattle.ruby_reader.specs.Grammar.{tok, free, taken, IsBreak, break_newline, break_semicolon, Opens, opens, Files, files_end, files_break, files_more}
+use Rattle.ruby_reader.specs.Grammar.{tok, free, taken, break_newline, break_semicolon, Opens, Files, files_end, files_break, files_more}
 use Rattle.ruby_reader.specs.ClassMachine.{class_next}
 use Rattle.ruby_reader.specs.FileMachine.{start, next, step, final, with_class}
 use Rattle.ruby_reader.specs.Answers.{Opened}

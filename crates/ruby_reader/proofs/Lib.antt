@@ -3,4 +3,3 @@ mod Bodies
 mod Methods
 mod Classes
 mod Files
-mod Texts

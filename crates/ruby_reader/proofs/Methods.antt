@@ -13,9 +13,9 @@ use Rattle.ruby_reader.specs.declared.body.BodyReader.TheVariants as body
 use Rattle.ruby_reader.specs.declared.method.Head.{Head}
 use Rattle.ruby_reader.specs.declared.method.MethodReader.{MethodReader}
 use Rattle.ruby_reader.specs.declared.method.MethodReader.TheVariants as method
-use Rattle.ruby_reader.specs.Grammar.{tok, free, taken, IsBreak, break_newline, break_semicolon, Bodies, body_break, Parens, parens_close, parens_newline, parens_note, Defines, define_bare, define_parens}
+use Rattle.ruby_reader.specs.Grammar.{tok, free, taken, break_newline, break_semicolon, Bodies, body_break, Parens, parens_close, parens_newline, parens_note, Defines, define_bare, define_parens}
 use Rattle.ruby_reader.specs.BodyMachine.{body_next}
-use Rattle.ruby_reader.specs.MethodMachine.{method_next, defined, in_body, with_body, open_or_body}
+use Rattle.ruby_reader.specs.MethodMachine.{method_next, defined, in_body, with_body}
 use Rattle.ruby_reader.proofs.Steps.{Goes}
 use Rattle.ruby_reader.proofs.Bodies.{BodyLeft, body_goes, body_left, body_ends}
 

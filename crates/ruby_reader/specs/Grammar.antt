@@ -6,7 +6,7 @@
 --
 -- A newline or a `;` ends a class, a method, a literal, the head of a class, and the head of a method without parentheses.
 -- It may be missing before the `end` that closes the list and at the end of the text. Further ones may stand where one may, and where a list begins.
-use Rattle.std.specs.Prelude.{◌≡◌, ℕ, List, [], ◌∷◌, IsUtf8}
+use Rattle.std.specs.Prelude.{ℕ, List, [], ◌∷◌}
 use Rattle.ruby_tokens.specs.declared.token.Token.{Token}
 use Rattle.ruby_tokens.specs.declared.token.Kind.{Kind}
 use Rattle.ruby_tokens.specs.declared.token.Kind.TheVariants as kind

@@ -71,6 +71,7 @@ fn in_class(
 }
 
 impl FileReader {
+    /// In front of a text.
     pub fn new(alloc: Global) -> FileReader
         ensures { result ≡ machine.start }
     {

@@ -1,6 +1,6 @@
-use Rattle.std.proofs.Common.{◌≡◌, ◌+◌, sym, ◌∙◌, drop, Some, None}
-use Rattle.ruby_reader.specs.FileMachine.{start, next, final}
-use Rattle.ruby_reader.proofs.Files.{reads, reads_more, reads_stop, reads_end, read_opened}
+use Rattle.std.proofs.Common.{◌≡◌, sym, ◌∙◌, Some, None}
+use Rattle.ruby_reader.specs.FileMachine.{next}
+use Rattle.ruby_reader.proofs.Files.{reads_more, reads_stop, reads_end, read_opened}
 use Rattle.ruby_reader.proofs.file.openings_of.Goals as goal
 
 pub returns-in-None : goal.returns-in-None
