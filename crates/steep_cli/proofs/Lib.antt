@@ -1,0 +1,2 @@
+pub mod OnlyLists
+pub mod OnlyOutcomes

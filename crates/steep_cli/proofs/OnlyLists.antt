@@ -1,0 +1,96 @@
+-- Of two texts one list alone is right.
+use Rattle.std.proofs.Common.{◌≡◌, ℕ, ◌<◌, ◌≤◌, List, length, refl, sym, ◌∙◌, ap, subst, arith}
+use Rattle.std.specs.Prelude.{Option, None, Some, Result, Ok, Err, IfOk, MatchOption}
+use Rattle.body_check.specs.declared.table.ClassMethods.{ClassMethods}
+use Rattle.sig_model.specs.PlainDecl.{PlainDecls}
+use Rattle.sig_model.specs.declared.diag.Diag.{Diag}
+use Rattle.sig_model.specs.declared.diag.DiagId.TheVariants as id
+use Rattle.rbs_parser.specs.Profile.{IsSignature}
+use Rattle.ruby_reader.specs.declared.tree.Opening.{Opening}
+use Rattle.ruby_reader.specs.Grammar.{IsRuby}
+use Rattle.ruby_reader.specs.Answers.{Answers}
+use Rattle.body_check.specs.Table.{classes_of}
+use Rattle.body_check.specs.Bodies.{Matches, faults}
+use Rattle.steep_cli.specs.Only.{IsOnly}
+use Rattle.steep_cli.specs.Lists.{limit, at_first, IsProgram, RubyLists, ruby_too_large, no_program, bodies, Lists, signature_too_large, no_signature, good_signature, AnswersProgram}
+
+module _ (ds : PlainDecls) (bytes : List ℕ) where
+  -- the classes that the bytes open are one list, and it matches or not
+  pub no_program_unread : Answers bytes None → AnswersProgram ds bytes None
+  no_program_unread none = λ os program. none os program.written
+
+  pub no_program_unmatched : (os : List Opening) → Answers bytes (Some os) → (Matches (classes_of ds) os → ⊥) → AnswersProgram ds bytes None
+  no_program_unmatched os read differs = λ qs program. differs (subst (Matches (classes_of ds)) (read.1 qs program.written) program.matches)
+
+  pub program_matched : (os : List Opening) (list : List Diag) → Answers bytes (Some os) → Matches (classes_of ds) os → list ≡ faults 3 (classes_of ds) os → AnswersProgram ds bytes (Some list)
+  program_matched os list read same is = (os, record { written = read.0; matches = same }, is, λ qs program. read.1 qs program.written)
+
+  pub only_large : limit < length bytes → IsOnly (RubyLists ds bytes) (at_first 3 id.StrictLimit)
+  only_large large = record { holds = ruby_too_large large; only = λ y other. go y other }
+    where
+      go : (y : List Diag) → RubyLists ds bytes y → y ≡ at_first 3 id.StrictLimit
+      go y (ruby_too_large more) = refl
+      go y (no_program within none) = absurd (omega arith)
+      go y (bodies within program) = absurd (omega arith)
+
+  pub only_none : length bytes ≤ limit → AnswersProgram ds bytes None → IsOnly (RubyLists ds bytes) (at_first 3 id.UnsupportedSyntax)
+  only_none within none = record { holds = no_program within none; only = λ y other. go y other }
+    where
+      go : (y : List Diag) → RubyLists ds bytes y → y ≡ at_first 3 id.UnsupportedSyntax
+      go y (ruby_too_large more) = absurd (omega arith)
+      go y (no_program also other) = refl
+      go y (bodies {os = os} also program) = absurd (none os program)
+
+  pub only_bodies : (list : List Diag) → length bytes ≤ limit → AnswersProgram ds bytes (Some list) → IsOnly (RubyLists ds bytes) list
+  only_bodies list within found = record { holds = subst (RubyLists ds bytes) (sym found.2) (bodies within found.1); only = λ y other. go y other }
+    where
+      go : (y : List Diag) → RubyLists ds bytes y → y ≡ list
+      go y (ruby_too_large more) = absurd (omega arith)
+      go y (no_program also none) = absurd (none found.0 found.1)
+      go y (bodies {os = qs} also program) = ap (faults 3 (classes_of ds)) (found.3 qs program) ∙ sym found.2
+
+module _ (signature ruby : List ℕ) where
+  pub only_large_signature : limit < length signature → IsOnly (Lists signature ruby) (at_first 2 id.StrictLimit)
+  only_large_signature large = record { holds = signature_too_large large; only = λ y other. go y other }
+    where
+      go : (y : List Diag) → Lists signature ruby y → y ≡ at_first 2 id.StrictLimit
+      go y (signature_too_large more) = refl
+      go y (no_signature within none) = absurd (omega arith)
+      go y (good_signature within read list) = absurd (omega arith)
+
+  pub only_no_signature : length signature ≤ limit → ((ds : PlainDecls) → IsSignature 2 ds signature → ⊥) → IsOnly (Lists signature ruby) (at_first 2 id.SignatureSyntaxError)
+  only_no_signature within none = record { holds = no_signature within none; only = λ y other. go y other }
+    where
+      go : (y : List Diag) → Lists signature ruby y → y ≡ at_first 2 id.SignatureSyntaxError
+      go y (signature_too_large more) = absurd (omega arith)
+      go y (no_signature also other) = refl
+      go y (good_signature {ds = ds} also read list) = absurd (none ds read)
+
+  pub only_good_signature : (ds : PlainDecls) (list : List Diag) → length signature ≤ limit → IsSignature 2 ds signature → ((es : PlainDecls) → IsSignature 2 es signature → es ≡ ds)
+      → IsOnly (RubyLists ds ruby) list → IsOnly (Lists signature ruby) list
+  only_good_signature ds list within read one listed = record { holds = good_signature within read listed.holds; only = λ y other. go y other }
+    where
+      go : (y : List Diag) → Lists signature ruby y → y ≡ list
+      go y (signature_too_large more) = absurd (omega arith)
+      go y (no_signature also none) = absurd (none ds read)
+      go y (good_signature {ds = es} also other inner) = listed.only y (subst (λ fs. RubyLists fs ruby y) (one es other) inner)
+
+-- What holds of the one value that a result may have, or of each.
+pub ok_is : {X E : Type 0} (r : Result X E) (x : X) (Q : X → Type 0) → IfOk r (λ y. y ≡ x) → Q x → IfOk r Q
+ok_is (Ok y) x Q is holds = subst Q (sym is) holds
+ok_is (Err e) x Q is holds = tt
+
+pub ok_on : {X E : Type 0} (r : Result X E) (P Q : X → Type 0) → IfOk r P → ((x : X) → P x → Q x) → IfOk r Q
+ok_on (Ok x) P Q holds on = on x holds
+ok_on (Err e) P Q holds on = tt
+
+pub answers_checked : {E : Type 0} (ds : PlainDecls) (bytes : List ℕ) (os : List Opening) (r : Result (Option (List Diag)) E) (cs : List ClassMethods) (ps : List Opening) → Answers bytes (Some os) → cs ≡ classes_of ds → ps ≡ os
+    → IfOk r (λ found. MatchOption found (Matches cs ps → ⊥) (λ list. Matches cs ps × (list ≡ faults 3 cs ps))) → IfOk r (AnswersProgram ds bytes)
+answers_checked {E = E} ds bytes os r cs ps read cs_are ps_are checked =
+    go r (subst (λ qs. IfOk r (λ found. MatchOption found (Matches (classes_of ds) qs → ⊥) (λ list. Matches (classes_of ds) qs × (list ≡ faults 3 (classes_of ds) qs)))) ps_are
+    (subst (λ ds'. IfOk r (λ found. MatchOption found (Matches ds' ps → ⊥) (λ list. Matches ds' ps × (list ≡ faults 3 ds' ps)))) cs_are checked))
+  where
+    go : (r : Result (Option (List Diag)) E) → IfOk r (λ found. MatchOption found (Matches (classes_of ds) os → ⊥) (λ list. Matches (classes_of ds) os × (list ≡ faults 3 (classes_of ds) os))) → IfOk r (AnswersProgram ds bytes)
+    go (Ok None) differs = no_program_unmatched ds bytes os read differs
+    go (Ok (Some list)) same = program_matched ds bytes os list read same.0 same.1
+    go (Err e) h = tt
