@@ -1,0 +1,4 @@
+pub mod Runs
+pub mod LexerRuns
+pub mod LexerComplete
+pub mod LexerSound

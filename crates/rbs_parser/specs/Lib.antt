@@ -1,3 +1,2 @@
 pub mod Tokens
-pub mod Grammar
-pub mod Profile
+pub mod Lexer

@@ -1,4 +1,6 @@
 //! Signatures, read: the classes that a text in UTF-8 declares.
 #![tactic(auto)]
 
+mod lexer;
 mod token;
+mod words;

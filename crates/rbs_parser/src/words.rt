@@ -1,0 +1,68 @@
+//! What the words of signature text are, by their letters.
+
+ghost use Rattle.std.specs.Prelude.{◌≡◌};
+ghost use Rattle.std.specs.List.{list_any};
+ghost use Rattle.names.specs.Places.{same_name, is_among};
+ghost use Rattle.rbs_parser.specs.Tokens.{keywords, begins_upper, is_interface_name, word_kind};
+
+use crate::token::Kind;
+use plain_data::Word;
+
+const KEYWORDS: [&str; 54] = [
+    "class", "module", "interface", "def", "end", "include", "extend", "prepend",
+    "attr_reader", "attr_writer", "attr_accessor", "alias", "type", "private", "public",
+    "unchecked", "out", "in", "singleton", "true", "false", "nil", "bool", "void",
+    "top", "bot", "self", "instance", "untyped", "if", "unless", "elsif", "else", "then", "while", "do", "return", "break",
+    "next", "yield", "super", "case", "for", "until", "begin", "rescue", "ensure",
+    "retry", "redo", "undef", "and", "or", "not", "__method__",
+];
+
+/// Whether a text is one of these.
+pub fn is_one_of(text: &str, words: &[&str]) -> bool
+    ensures { result ≡ list_any (λ word. same_name text.now word.now) words.now }
+{
+    words.iter().any(|word| text == *word)
+}
+
+/// Whether a word is a keyword of signatures or of Ruby.
+fn is_keyword(text: &str) -> bool
+    ensures { result ≡ is_among text.now keywords }
+{
+    is_one_of(text, &KEYWORDS)
+}
+
+/// Whether a text begins with an ASCII capital.
+fn begins_upper(text: &[u8]) -> bool
+    ensures { result ≡ begins_upper text.now }
+{
+    match text {
+        [] => false,
+        [first, ..] => first.is_ascii_uppercase(),
+    }
+}
+
+/// Whether a word is the name of an interface: an underscore, and then a capital.
+fn is_interface_name(text: &[u8]) -> bool
+    ensures { result ≡ is_interface_name text.now }
+{
+    match text {
+        [] => false,
+        [first, rest @ ..] => *first == b'_' && begins_upper(rest),
+    }
+}
+
+/// What a word is.
+pub fn word_kind(word: Word) -> Kind
+    ensures { result ≡ word_kind word }
+{
+    match word.as_str() {
+        "class" => Kind::Class,
+        "def" => Kind::Def,
+        "end" => Kind::End,
+        "nil" => Kind::Nil,
+        "void" => Kind::Void,
+        text if begins_upper(text.as_bytes()) => Kind::Upper(word),
+        text if is_keyword(text) || is_interface_name(text.as_bytes()) => Kind::Other,
+        _ => Kind::Lower(word),
+    }
+}
