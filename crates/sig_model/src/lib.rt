@@ -1,6 +1,7 @@
 //! The model of signatures: places, diagnostics, types and declarations, as plain data.
 #![tactic(auto)]
 
+pub mod build;
 pub mod decl;
 pub mod diag;
 pub mod place;
