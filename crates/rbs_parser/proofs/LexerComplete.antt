@@ -1,5 +1,6 @@
 -- Tokens that the characters divide into are the tokens that the reader reads.
-use Rattle.std.proofs.Common.{ℕ, ◌≡◌, ◌+◌, refl, sym, ap, ◌∙◌, subst, List, [], ◌∷◌, ◌++◌, Bool, true, false, cond, Option, Some, None, append_assoc, append-nil, add-zero, eqb, eqb→eq}
+use Rattle.std.proofs.Common.{ℕ, ◌≡◌, ◌+◌, refl, sym, ap, ◌∙◌, subst, List, [], ◌∷◌, ◌++◌, Bool, true, false, cond, Option, Some, None, append_assoc, append-nil, add-zero, arith, eqb}
+use Rattle.std.proofs.lemmas.Bool.{eqb-true}
 use Rattle.std.specs.Prelude.{encode_utf8, encode_utf8_all, not, option_and_then}
 use Rattle.source_text.specs.Characters.{width, is_name_character, starts_word, Run, run_ends, run_stops, run_goes}
 use Rattle.rbs_parser.specs.declared.token.Token.{Token}
@@ -26,7 +27,7 @@ unfolding reads
 word_read done start at text run_ends = word_ends done start at text []
 word_read done start at text (run_stops {c = c} {cs = cs} h) = rw h (word_ends done start at text (c ∷ cs))
 word_read done start at text (run_goes {c = c} {w = w} {cs = cs} {rest = rest} h d) =
-    reads_goes next final _ (reading done (past at c) (mode.Word start (text ++ encode_utf8 c))) c cs (rw h refl)
+    reads_goes next final (reading done at (mode.Word start text)) (reading done (past at c) (mode.Word start (text ++ encode_utf8 c))) c cs (rw h refl)
     ∙ word_read done start (past at c) (text ++ encode_utf8 c) d
     ∙ ap (λ t. behind_word done start t (past at c + width w) rest) (append_assoc text (encode_utf8 c) (encode_utf8_all w))
     ∙ ap (λ n. behind_word done start (text ++ encode_utf8_all (c ∷ w)) n rest) (past_width at c w)
@@ -35,7 +36,7 @@ not_in_line : (c : ℕ) → is_in_line c ≡ false → c ≡ 10
 not_in_line c h = go (eqb c 10) refl h
     where
       go : (b : Bool) → eqb c 10 ≡ b → not b ≡ false → c ≡ 10
-      go true e h = eqb→eq c 10 e
+      go true e h = eqb-true c 10 e
       go false e h = absurd (cc)
 
 in_line : (c : ℕ) → is_in_line c ≡ true → eqb c 10 ≡ false
@@ -53,7 +54,7 @@ comment_read done at (run_stops {c = c} {cs = cs} h) =
     subst (λ c. lexed (reading done at mode.Comment) (c ∷ cs) ≡ lexed (reading done (at + 0) mode.Between) (c ∷ cs)) (sym (not_in_line c h))
     (ap (λ n. lexed (reading done n mode.Between) (10 ∷ cs)) (sym (add-zero at)))
 comment_read done at (run_goes {c = c} {w = w} {cs = cs} {rest = rest} h d) =
-    reads_goes next final _ (reading done (past at c) mode.Comment) c cs (ap (λ b. Some (reading done (past at c) (cond b mode.Between mode.Comment))) (in_line c h))
+    reads_goes next final (reading done at mode.Comment) (reading done (past at c) mode.Comment) c cs (ap (λ b. Some (reading done (past at c) (cond b mode.Between mode.Comment))) (in_line c h))
     ∙ comment_read done (past at c) d
     ∙ ap (λ n. lexed (reading done n mode.Between) rest) (past_width at c w)
 
@@ -68,9 +69,9 @@ gap_goes done at c h = ap (λ k. begin k done at c) (gap_kind c h) ∙ ap (λ n.
 -- the reader takes a token
 token_read : (done : List Token) (at : ℕ) {k : _} {n : ℕ} {cs rest : List ℕ} → Lexes k n cs rest
     → lexed (reading done at mode.Between) cs ≡ lexed (reading (done ++ token_of k at (at + n) ∷ []) (at + n) mode.Between) rest
-unfolding reads
+unfolding reads lib.Utf8.encode
 token_read done at (lex_word {c = c} {w = w} {cs = cs} {rest = rest} s r) =
-    reads_goes next final _ (reading done (past at c) (mode.Word at (encode_utf8 c))) c cs (word_begins done at c s)
+    reads_goes next final (reading done at mode.Between) (reading done (past at c) (mode.Word at (encode_utf8 c))) c cs (word_begins done at c s)
     ∙ word_read done at (past at c) (encode_utf8 c) r
     ∙ ap (λ n. behind_word done at (encode_utf8_all (c ∷ w)) n rest) (past_width at c w)
 token_read done at lex_colon = refl
@@ -82,9 +83,9 @@ token_read done at (lex_arrow {rest = rest}) =
     ap (λ n. lexed (reading (done ++ token_of kind.Arrow at n ∷ []) n mode.Between) rest) e
 
 pub complete : (done : List Token) {at : ℕ} {ts : List Token} {cs : List ℕ} → Divides at ts cs → lexed (reading done at mode.Between) cs ≡ Some (done ++ ts)
-unfolding reads
+unfolding reads lib.Utf8.encode
 complete done ended = ap Some (sym (append-nil done))
-complete done {at = at} (gap {c = c} {cs = cs} h d) = reads_goes next final _ (reading done (at + 1) mode.Between) c cs (gap_goes done at c h) ∙ complete done d
+complete done {at = at} (gap {c = c} {cs = cs} h d) = reads_goes next final (reading done at mode.Between) (reading done (at + 1) mode.Between) c cs (gap_goes done at c h) ∙ complete done d
 complete done {at = at} (comment r d) = comment_read done (at + 1) r ∙ complete done d
 complete done {at = at} (token {n = n} {k = k} {ts = ts} l d) =
     token_read done at l ∙ complete (done ++ token_of k at (at + n) ∷ []) d ∙ ap Some (append_assoc done (token_of k at (at + n) ∷ []) ts)

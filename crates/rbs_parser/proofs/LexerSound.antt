@@ -1,5 +1,6 @@
 -- The tokens that the reader reads are those that the characters divide into.
-use Rattle.std.proofs.Common.{ℕ, ◌≡◌, ◌+◌, refl, sym, ap, ◌∙◌, subst, List, [], ◌∷◌, ◌++◌, Bool, true, false, cond, Option, Some, None, append_assoc, append-nil, add-zero, arith, eqb, eqb→eq}
+use Rattle.std.proofs.Common.{ℕ, ◌≡◌, ◌+◌, refl, sym, ap, ◌∙◌, subst, List, [], ◌∷◌, ◌++◌, Bool, true, false, cond, Option, Some, None, append_assoc, append-nil, add-zero, arith, eqb}
+use Rattle.std.proofs.lemmas.Bool.{eqb-true}
 use Rattle.std.specs.Prelude.{encode_utf8, encode_utf8_all, not, ◌==◌}
 use Rattle.source_text.specs.Characters.{width, is_name_character, starts_word, Run, run_ends, run_stops, run_goes}
 use Rattle.rbs_parser.specs.declared.token.Token.{Token}
@@ -36,12 +37,12 @@ char_fact : (c : ℕ) → Fact (char_kind c) c
 char_fact c =
     chosen (λ k. Fact k c) (starts_word c) _ _ (λ h. h)
     (chosen (λ k. Fact k c) (is_gap c) _ _ (λ h. h)
-    (chosen (λ k. Fact k c) (eqb c 35) _ _ (eqb→eq c 35)
-    (chosen (λ k. Fact k c) (eqb c 45) _ _ (eqb→eq c 45)
-    (chosen (λ k. Fact k c) (eqb c 58) _ _ (eqb→eq c 58)
-    (chosen (λ k. Fact k c) (eqb c 44) _ _ (eqb→eq c 44)
-    (chosen (λ k. Fact k c) (eqb c 40) _ _ (eqb→eq c 40)
-    (chosen (λ k. Fact k c) (eqb c 41) _ _ (eqb→eq c 41) tt)))))))
+    (chosen (λ k. Fact k c) (eqb c 35) _ _ (eqb-true c 35)
+    (chosen (λ k. Fact k c) (eqb c 45) _ _ (eqb-true c 45)
+    (chosen (λ k. Fact k c) (eqb c 58) _ _ (eqb-true c 58)
+    (chosen (λ k. Fact k c) (eqb c 44) _ _ (eqb-true c 44)
+    (chosen (λ k. Fact k c) (eqb c 40) _ _ (eqb-true c 40)
+    (chosen (λ k. Fact k c) (eqb c 41) _ _ (eqb-true c 41) tt)))))))
 
 module _ (whole : List ℕ) where
   -- the tokens so far, and whatever follows, divide the whole text
@@ -80,6 +81,7 @@ module _ (whole : List ℕ) where
       (h (token_of (word_kind (encode_utf8_all (c ∷ w))) at (at + width (c ∷ w)) ∷ ts) (token (lex_word s r) d2))
 
   begin_at : (k : CharKind) (c : ℕ) (tokens : List Token) (at : ℕ) (left : List ℕ) → Fact k c → ModeAt mode.Between tokens at (c ∷ left) → NextAt (begin k tokens at c) left
+  unfolding lib.Utf8.encode
   begin_at char.WordStart c tokens at left f h = word_at c tokens at left f h
   begin_at char.Gap c tokens at left f h = subst (λ n. ModeAt mode.Between tokens n left) (sym (past_gap at c f)) (λ ts d. h ts (gap f d))
   begin_at char.Hash c tokens at left f h =
@@ -109,12 +111,13 @@ module _ (whole : List ℕ) where
   between_at c tokens at left h = begin_at (char_kind c) c tokens at left (char_fact c) h
 
   comment_at : (c : ℕ) (tokens : List Token) (at : ℕ) (left : List ℕ) → ModeAt mode.Comment tokens at (c ∷ left) → NextAt (machine.comment tokens at c) left
+  unfolding lib.Utf8.encode
   comment_at c tokens at left h = go (eqb c 10) refl
     where
       go : (b : Bool) → eqb c 10 ≡ b → At (reading tokens (past at c) (cond b mode.Between mode.Comment)) left
       go true e = λ ts d.
           let f : is_in_line c ≡ false = rw e refl in
-          let g : is_gap c ≡ true = subst (λ c. is_gap c ≡ true) (sym (eqb→eq c 10 e)) refl in
+          let g : is_gap c ≡ true = subst (λ c. is_gap c ≡ true) (sym (eqb-true c 10 e)) refl in
           let d2 : Divides ((at + 0) + 1) ts left = subst (λ n. Divides n ts left) (past_gap at c g ∙ ap (λ n. n + 1) (sym (add-zero at))) d in
           h [] (c ∷ left) ts (run_stops f) (gap g d2)
       go false e = λ text rest ts r d.
@@ -148,10 +151,11 @@ module _ (whole : List ℕ) where
       go false e = between_at c (tokens ++ token_of (word_kind text) start at ∷ []) at left (word_end_at start text tokens at (c ∷ left) h (run_stops e))
 
   dash_goes_at : (start c : ℕ) (tokens : List Token) (at : ℕ) (left : List ℕ) → ModeAt (mode.Dash start) tokens at (c ∷ left) → NextAt (machine.dash tokens at start c) left
+  unfolding lib.Utf8.encode
   dash_goes_at start c tokens at left h = go (eqb c 62) refl
     where
       go : (b : Bool) → eqb c 62 ≡ b → NextAt (cond b (Some (reading (tokens ++ token_of kind.Arrow start (past at c) ∷ []) (past at c) mode.Between)) None) left
-      go true e = subst (λ c. ModeAt (mode.Dash start) tokens at (c ∷ left) → ModeAt mode.Between (tokens ++ token_of kind.Arrow start (past at c) ∷ []) (past at c) left) (sym (eqb→eq c 62 e))
+      go true e = subst (λ c. ModeAt (mode.Dash start) tokens at (c ∷ left) → ModeAt mode.Between (tokens ++ token_of kind.Arrow start (past at c) ∷ []) (past at c) left) (sym (eqb-true c 62 e))
           (λ h. token_at kind.Arrow tokens start (at + 1) left (λ ts d. h left ts refl d)) h
       go false e = tt
 
