@@ -3,3 +3,7 @@ pub mod LexerRuns
 pub mod LexerComplete
 pub mod LexerSound
 pub mod LexerMain
+pub mod Plain
+pub mod ParserComplete
+pub mod ParserSound
+pub mod ParserMain

@@ -1,2 +1,4 @@
 pub mod Tokens
 pub mod Lexer
+pub mod Grammar
+pub mod Parser

@@ -2,5 +2,6 @@
 #![tactic(auto)]
 
 mod lexer;
+mod parser;
 mod token;
 mod words;
