@@ -34,17 +34,17 @@ word_read done start at text (run_goes {c = c} {w = w} {cs = cs} {rest = rest} h
 
 not_in_line : (c : ℕ) → is_in_line c ≡ false → c ≡ 10
 not_in_line c h = go (eqb c 10) refl h
-    where
-      go : (b : Bool) → eqb c 10 ≡ b → not b ≡ false → c ≡ 10
-      go true e h = eqb-true c 10 e
-      go false e h = absurd (cc)
+  where
+    go : (b : Bool) → eqb c 10 ≡ b → not b ≡ false → c ≡ 10
+    go true e h = eqb-true c 10 e
+    go false e h = absurd (cc)
 
 in_line : (c : ℕ) → is_in_line c ≡ true → eqb c 10 ≡ false
 in_line c h = go (eqb c 10) refl h
-    where
-      go : (b : Bool) → eqb c 10 ≡ b → not b ≡ true → eqb c 10 ≡ false
-      go true e h = absurd (cc)
-      go false e h = e
+  where
+    go : (b : Bool) → eqb c 10 ≡ b → not b ≡ true → eqb c 10 ≡ false
+    go true e h = absurd (cc)
+    go false e h = e
 
 comment_read : (done : List Token) (at : ℕ) {text cs rest : List ℕ} → Run is_in_line text cs rest
     → lexed (reading done at mode.Comment) cs ≡ lexed (reading done (at + width text) mode.Between) rest

@@ -86,10 +86,10 @@ reading_stops cs bytes i l c s r h e n =
 pub reading_all : (cs bytes : List ℕ) (i : ℕ) (l : Lexer) (o : Option (List Token)) → IsUtf8 bytes → cs ≡ chars bytes → Reading cs (length bytes) i l → drop i cs ≡ [] → o ≡ final l → AnswersTokens bytes o
 reading_all cs bytes i l o u s r end e =
     go o (subst (λ cs. lexed (reading [] 0 mode.Between) cs ≡ o) s (r.same ∙ ap (lexed l) end ∙ reads_end next final l ∙ sym e))
-    where
-      go : (o : Option (List Token)) → lexed (reading [] 0 mode.Between) (chars bytes) ≡ o → AnswersTokens bytes o
-      go None e = none_of bytes e
-      go (Some ts) e = (u, sound (chars bytes) ts e, λ us d. let f = complete [] d in cc)
+  where
+    go : (o : Option (List Token)) → lexed (reading [] 0 mode.Between) (chars bytes) ≡ o → AnswersTokens bytes o
+    go None e = none_of bytes e
+    go (Some ts) e = (u, sound (chars bytes) ts e, λ us d. let f = complete [] d in cc)
 
 pub if_ok : {A E : Type 0} {P Q : A → Type 0} (r : Result A E) → IfOk r P → ((x : A) → P x → Q x) → IfOk r Q
 if_ok (Ok x) h f = f x h

@@ -20,13 +20,13 @@ past_width at c cs = omega (arith, length-append (encode_utf8 c) (encode_utf8_al
 
 pub gap_cases : (P : ℕ → Type 0) → P 32 → P 9 → P 13 → P 10 → (c : ℕ) → is_gap c ≡ true → P c
 gap_cases P a b d e c h = go (eqb c 32) refl (eqb c 9) refl (eqb c 13) refl (eqb c 10) refl h
-    where
-      go : (x : Bool) → eqb c 32 ≡ x → (y : Bool) → eqb c 9 ≡ y → (z : Bool) → eqb c 13 ≡ z → (w : Bool) → eqb c 10 ≡ w → ((x || y) || z) || w ≡ true → P c
-      go true p y q z r w s h = subst P (sym (eqb-true c 32 p)) a
-      go false p true q z r w s h = subst P (sym (eqb-true c 9 q)) b
-      go false p false q true r w s h = subst P (sym (eqb-true c 13 r)) d
-      go false p false q false r true s h = subst P (sym (eqb-true c 10 s)) e
-      go false p false q false r false s h = absurd (cc)
+  where
+    go : (x : Bool) → eqb c 32 ≡ x → (y : Bool) → eqb c 9 ≡ y → (z : Bool) → eqb c 13 ≡ z → (w : Bool) → eqb c 10 ≡ w → ((x || y) || z) || w ≡ true → P c
+    go true p y q z r w s h = subst P (sym (eqb-true c 32 p)) a
+    go false p true q z r w s h = subst P (sym (eqb-true c 9 q)) b
+    go false p false q true r w s h = subst P (sym (eqb-true c 13 r)) d
+    go false p false q false r true s h = subst P (sym (eqb-true c 10 s)) e
+    go false p false q false r false s h = absurd (cc)
 
 pub past_gap : (at c : ℕ) → is_gap c ≡ true → past at c ≡ at + 1
 unfolding lib.Utf8.encode

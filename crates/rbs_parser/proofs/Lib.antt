@@ -7,3 +7,5 @@ pub mod Plain
 pub mod ParserComplete
 pub mod ParserSound
 pub mod ParserMain
+pub mod Named
+pub mod Members

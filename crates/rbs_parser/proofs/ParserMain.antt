@@ -30,7 +30,7 @@ parsing_stops file ts i s t p h e = none_of file ts (p.same ∙ ap (parsed file 
 
 pub parsing_all : (file : ℕ) (ts : List Token) (i : ℕ) (s : State) (o : Option (List Decl)) → Parsing file ts i s → drop i ts ≡ [] → option_map plain_decls o ≡ final s → AnswersClasses file ts o
 parsing_all file ts i s o p end e = go o (p.same ∙ ap (parsed file s) end ∙ reads_end (next file) final s ∙ sym e)
-    where
-      go : (o : Option (List Decl)) → parsed file start ts ≡ option_map plain_decls o → AnswersClasses file ts o
-      go None e = none_of file ts e
-      go (Some decls) e = (sound file ts (plain_decls decls) e, λ ds d. let f = complete file no_decls d in cc)
+  where
+    go : (o : Option (List Decl)) → parsed file start ts ≡ option_map plain_decls o → AnswersClasses file ts o
+    go None e = none_of file ts e
+    go (Some decls) e = (sound file ts (plain_decls decls) e, λ ds d. let f = complete file no_decls d in cc)

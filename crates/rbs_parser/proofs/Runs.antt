@@ -32,8 +32,8 @@ pub reads_keeps : {S T X : Type 0} (next : S → T → Option S) (final : S → 
 unfolding reads
 reads_keeps next final At Right step end [] s x h e = end s x h e
 reads_keeps next final At Right step end (t ∷ ts) s x h e = go (next s t) refl e (λ m. reads_keeps next final At Right step end ts m x)
-    where
-      go : (o : Option _) → next s t ≡ o → option_and_then (λ m. reads next final m ts) o ≡ Some x
-          → ((m : _) → At m ts → reads next final m ts ≡ Some x → Right x) → Right x
-      go None f e more = absurd (cc)
-      go (Some m) f e more = more m (step s m t ts h f) e
+  where
+    go : (o : Option _) → next s t ≡ o → option_and_then (λ m. reads next final m ts) o ≡ Some x
+        → ((m : _) → At m ts → reads next final m ts ≡ Some x → Right x) → Right x
+    go None f e more = absurd (cc)
+    go (Some m) f e more = more m (step s m t ts h f) e

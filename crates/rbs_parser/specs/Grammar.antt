@@ -37,7 +37,7 @@ module _ (file : ℕ) where
     methods_more : {s1 e1 s2 e2 s3 e3 s4 e4 s5 e5 s6 e6 s7 e7 last : ℕ} {m : List ℕ} {k : Kind} {result : PlainTy} {parts : PlainParts} {ts rest : List Token}
         → IsResult result k → Methods parts last ts rest
         → Methods (with_method (span s1 e7) m no_args result parts) last
-            (tok kind.Def s1 e1 ∷ tok (kind.Lower m) s2 e2 ∷ tok kind.Colon s3 e3 ∷ tok kind.Open s4 e4 ∷ tok kind.Close s5 e5 ∷ tok kind.Arrow s6 e6 ∷ tok k s7 e7 ∷ ts) rest
+        (tok kind.Def s1 e1 ∷ tok (kind.Lower m) s2 e2 ∷ tok kind.Colon s3 e3 ∷ tok kind.Open s4 e4 ∷ tok kind.Close s5 e5 ∷ tok kind.Arrow s6 e6 ∷ tok k s7 e7 ∷ ts) rest
 
   -- `Classes decls ts`: the tokens `ts` are the classes `decls`.
   pub data Classes : PlainDecls → List Token → Type 0 where

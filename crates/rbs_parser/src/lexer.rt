@@ -98,12 +98,7 @@ fn marked(kind: Kind, tokens: Many<Token>, at: u32, c: char) -> Result<Option<Le
 }
 
 /// Between tokens.
-fn between(
-    alloc: Global,
-    tokens: Many<Token>,
-    at: u32,
-    c: char,
-) -> Result<Option<Lexer>, NoMemory>
+fn between(alloc: Global, tokens: Many<Token>, at: u32, c: char) -> Result<Option<Lexer>, NoMemory>
     requires { at + length (encode_utf8 c) < 2 ^ 32 }
     ensures { IfOk result (λ next. next ≡ machine.between tokens at c) }
 {

@@ -29,7 +29,9 @@ pub enum Progress {
     /// None is begun: `def` or `end` must follow.
     Between,
     /// The name must follow a `def` that began at this byte.
-    Name { first: u32 },
+    Name {
+        first: u32,
+    },
     Method {
         first: u32,
         name: Word,
@@ -42,7 +44,9 @@ pub enum Progress {
 pub enum Stage {
     Outside,
     /// Behind a `class` that began at this byte.
-    Class { begin: u32 },
+    Class {
+        begin: u32,
+    },
     /// In a class, behind these parts.
     Inside {
         begin: u32,
@@ -165,11 +169,7 @@ fn between(
     ensures { Does (machine.between file (plain_decls decls) class.begin class.name (plain_parts class.parts) token.kind token.start token.end) result }
 {
     match token.kind {
-        Kind::Def => Ok(with_progress(
-            decls,
-            class,
-            Some(Progress::Name { first: token.start }),
-        )),
+        Kind::Def => Ok(with_progress(decls, class, Some(Progress::Name { first: token.start }))),
         Kind::End => {
             let Open { begin, name, parts } = class;
             let place = Place {
