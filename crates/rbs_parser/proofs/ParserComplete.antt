@@ -9,7 +9,7 @@ use Rattle.rbs_parser.specs.declared.token.Kind.{Kind}
 use Rattle.rbs_parser.specs.declared.token.Kind.TheVariants as kind
 use Rattle.rbs_parser.specs.declared.parser.Progress.TheVariants as progress
 use Rattle.rbs_parser.specs.Grammar.{span, with_method, IsResult, result_nil, result_void, result_name, Methods, methods_end, methods_more, Classes, classes_end, classes_more}
-use Rattle.rbs_parser.specs.Parser.{State, reading, outside, inside, start, next, final, decls_then, parts_then, outcome, method_ends}
+use Rattle.rbs_parser.specs.Parser.{State, reading, outside, inside, nothing_read, next, final, decls_then, parts_then, outcome, method_ends}
 use Rattle.rbs_parser.proofs.Runs.{reads}
 use Rattle.rbs_parser.proofs.Plain.{decls_then_none, decls_then_more, parts_then_none, parts_then_more}
 

@@ -11,7 +11,7 @@ use Rattle.rbs_parser.specs.declared.parser.Wanted.TheVariants as wanted
 use Rattle.rbs_parser.specs.declared.parser.Progress.{Progress}
 use Rattle.rbs_parser.specs.declared.parser.Progress.TheVariants as progress
 use Rattle.rbs_parser.specs.Grammar.{tok, span, with_method, IsResult, result_nil, result_void, result_name, Methods, methods_end, methods_more, Classes, classes_end, classes_more}
-use Rattle.rbs_parser.specs.Parser.{State, Stage, reading, outside, named_next, inside, start, next, final, ends, step, decls_then, parts_then, top_level, class_name, method_name, mark, method_goes, with_progress, between, method_ends, method_type, in_class, outcome}
+use Rattle.rbs_parser.specs.Parser.{State, Stage, reading, outside, named_next, inside, nothing_read, next, final, ends, step, decls_then, parts_then, top_level, class_name, method_name, mark, method_goes, with_progress, between, method_ends, method_type, in_class, outcome}
 use Rattle.rbs_parser.proofs.Runs.{reads_keeps}
 use Rattle.rbs_parser.proofs.Plain.{decls_then_none, decls_then_more, parts_then_none, parts_then_more}
 use Rattle.rbs_parser.proofs.ParserComplete.{parsed}
@@ -115,8 +115,8 @@ module _ (file : ℕ) (whole : List Token) where
   end_at outside decls h = subst (λ ds. Classes file ds whole) (decls_then_none decls) (h no_decls classes_end)
   end_at _ decls h = tt
 
-pub sound : (file : ℕ) (ts : List Token) (ds : PlainDecls) → parsed file start ts ≡ Some ds → Classes file ds ts
+pub sound : (file : ℕ) (ts : List Token) (ds : PlainDecls) → parsed file nothing_read ts ≡ Some ds → Classes file ds ts
 sound file ts ds e = reads_keeps (next file) final (At file ts) (λ ds. Classes file ds ts)
     (λ s m t left h e. subst (λ o. NextAt file ts o left) e (step_at file ts s.stage s.decls t.kind t.start t.end left h))
     (λ s ds h e. subst (Ended file ts) e (end_at file ts s.stage s.decls h))
-    ts start ds (λ ds d. d) e
+    ts nothing_read ds (λ ds d. d) e

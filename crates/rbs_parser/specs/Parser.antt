@@ -41,8 +41,9 @@ pub record State : Type 0 where
 abbrev pub reading : PlainDecls → Stage → State
 reading decls stage = record { decls = decls; stage = stage }
 
-abbrev pub start : State
-start = reading no_decls outside
+-- nothing is read
+abbrev pub nothing_read : State
+nothing_read = reading no_decls outside
 
 -- outside of classes
 abbrev pub top_level : PlainDecls → Kind → ℕ → Option State

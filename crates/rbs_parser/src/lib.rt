@@ -11,3 +11,6 @@ mod words;
 
 pub use classes::parse_classes;
 pub use refused::ParseRefused;
+
+#[cfg(test)]
+mod tests;

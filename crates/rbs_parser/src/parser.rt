@@ -281,7 +281,7 @@ fn in_class(
 
 impl Parser {
     fn new(alloc: Global) -> Parser
-        ensures { state result ≡ machine.start }
+        ensures { state result ≡ machine.nothing_read }
     {
         Parser {
             decls: Many::new(alloc),
