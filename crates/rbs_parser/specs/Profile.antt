@@ -1,12 +1,18 @@
 -- Which texts are signatures of the profile, and what they declare.
-use Rattle.std.specs.Prelude.{◌≡◌, ℕ, Bool, true, false, not, ◌||◌, ◌&&◌, ◌==◌, List, [], ◌∷◌, map, codes, Option, Some, None, Result, Ok, Err, IsUtf8, length, starts_with, nat_eq}
-use Rattle.std.specs.List.{IsDistinct, AllByRecursion}
+use Rattle.std.specs.Prelude.{◌≡◌, ℕ, Bool, true, false, ◌||◌, List, [], ◌∷◌, map, codes, Result, Ok, Err, IsUtf8, MatchBool, nat_eq}
+use Rattle.std.specs.List.{IsDistinct, AllByRecursion, starts_with}
 use Rattle.std.specs.Str.{chars}
 use Rattle.names.specs.Places.{same_name, is_among}
 use Rattle.sig_model.specs.declared.place.Place.{Place}
 use Rattle.sig_model.specs.declared.decl.Decl.{Decl}
+use Rattle.sig_model.specs.declared.ty.BaseTy.{BaseTy}
 use Rattle.sig_model.specs.declared.ty.BaseTy.TheVariants as base_ty
+use Rattle.sig_model.specs.PlainTy.{PlainTy, PlainFun, base, name, no_tys, function}
+use Rattle.sig_model.specs.PlainMember.{PlainMember, PlainMethod, method}
+use Rattle.sig_model.specs.PlainDecl.{PlainDecls, PlainParts, no_decls, more_decls, decl, class, no_parts, inner, member, plain_decls}
 use Rattle.rbs_parser.specs.declared.token.Token.{Token}
+use Rattle.rbs_parser.specs.declared.refused.ParseRefused.{ParseRefused}
+use Rattle.rbs_parser.specs.declared.refused.ParseRefused.TheVariants.{Syntax, Limit, NoMemory}
 use Rattle.rbs_parser.specs.Tokens.{Divides}
 use Rattle.rbs_parser.specs.Grammar.{Classes}
 
@@ -29,4 +35,82 @@ reserved_names = codes "hash" ∷ codes "to_ary" ∷ codes "to_proc" ∷ codes "
     ∷ codes "define_method" ∷ codes "inherited" ∷ codes "included" ∷ codes "extended" ∷ codes "prepended" ∷ codes "method_added" ∷ []
 
 abbrev pub is_reserved : List ℕ → Bool
-is_reserved name = is_among name reserved_names || starts_with nat_eq name (codes "__")
+is_reserved word = is_among word reserved_names || starts_with nat_eq word (codes "__")
+
+-- the classes of the core signature whose values a result may be
+abbrev pub result_classes : List (List ℕ)
+result_classes = codes "Integer" ∷ codes "String" ∷ codes "Symbol" ∷ []
+
+abbrev pub result_of : PlainFun → PlainTy
+result_of (function required optional more trailing keys key_more blk result) = result
+
+-- a member, before the methods behind it
+abbrev pub method_before : PlainMember → List (List ℕ × PlainTy) → List (List ℕ × PlainTy)
+method_before (method vis single word (overload ∷ overloads)) behind = (word, result_of overload.fun) ∷ behind
+method_before _ behind = behind
+
+-- the methods of a class in order: the name and the result (of the first overload) of each; other parts declare none
+abbrev pub methods_of : PlainParts → List (List ℕ × PlainTy)
+methods_of no_parts = []
+methods_of (inner d parts) = methods_of parts
+methods_of (member place notes m parts) = method_before m (methods_of parts)
+
+-- a class by the path of its name, before the classes behind it
+abbrev pub class_before : List (List ℕ) → PlainParts → List (List ℕ × PlainParts) → List (List ℕ × PlainParts)
+class_before (word ∷ []) parts behind = (word, parts) ∷ behind
+class_before _ parts behind = behind
+
+-- the classes of a file in order: the name (the path's only word) and the parts of each; other declarations are none
+abbrev pub classes_of : PlainDecls → List (List ℕ × PlainParts)
+classes_of no_decls = []
+classes_of (more_decls (decl place notes (class n params parent parts)) decls) = class_before n.path parts (classes_of decls)
+classes_of (more_decls d decls) = classes_of decls
+
+abbrev pub class_names : PlainDecls → List (List ℕ)
+class_names ds = map (λ c. c.0) (classes_of ds)
+
+-- A method may have this name with this result: `initialize` with `void`, and any other name that nothing keeps from it.
+abbrev pub IsMethodName : List ℕ → PlainTy → Type 0
+IsMethodName word result =
+    MatchBool (same_name word (codes "initialize")) (result ≡ base base_ty.Void) ((is_among word core_names ≡ false) × (is_reserved word ≡ false))
+
+-- a class that a result may name: one of the core signature, or of the file
+abbrev pub IsKnown : List (List ℕ) → Bool → List (List ℕ) → Type 0
+IsKnown classes false (word ∷ []) = (is_among word result_classes || is_among word classes) ≡ true
+IsKnown classes _ _ = ⊥
+
+-- the words of the language that a result may be
+abbrev pub IsResultWord : BaseTy → Type 0
+IsResultWord base_ty.Nil = Unit {0}
+IsResultWord base_ty.Void = Unit {0}
+IsResultWord _ = ⊥
+
+-- A result is `nil` or `void`, one of Integer, String and Symbol, or a class of the file.
+abbrev pub IsDeclared : List (List ℕ) → PlainTy → Type 0
+IsDeclared classes (base word) = IsResultWord word
+IsDeclared classes (name n no_tys) = IsKnown classes n.rooted n.path
+IsDeclared classes _ = ⊥
+
+-- each method of a class may have its name and its result, and no name stands twice
+pub record HasWellNamed (classes : List (List ℕ)) (methods : List (List ℕ × PlainTy)) : Type 0 where
+  pub once : IsDistinct same_name (map (λ m. m.0) methods)
+  pub each : AllByRecursion (λ m. IsMethodName m.0 m.1 × IsDeclared classes m.1) methods
+
+-- each name is declared, and none twice
+pub record IsWellNamed (ds : PlainDecls) : Type 0 where
+  pub classes_once : IsDistinct same_name (class_names ds)
+  pub classes_own : AllByRecursion (λ n. is_among n core_classes ≡ false) (class_names ds)
+  pub methods : AllByRecursion (λ c. HasWellNamed (class_names ds) (methods_of c.1)) (classes_of ds)
+
+-- the bytes are a signature file that spells these declarations
+pub record IsSignature (file : ℕ) (ds : PlainDecls) (bytes : List ℕ) : Type 0 where
+  pub utf8 : IsUtf8 bytes
+  pub written : (ts : List Token) × Divides 0 ts (chars bytes) × Classes file ds ts
+  pub well_named : IsWellNamed ds
+
+-- What `parse_classes` answers: the declarations that the bytes spell, and no others, or the file's first byte where they spell none.
+abbrev pub Answers : ℕ → List ℕ → Result (List Decl) ParseRefused → Type 0
+Answers file bytes (Ok decls) = IsSignature file (plain_decls decls) bytes × ((ds : PlainDecls) → IsSignature file ds bytes → ds ≡ plain_decls decls)
+Answers file bytes (Err (Syntax place)) = (place ≡ record { file = file; start = 0; end = 0 }) × ((ds : PlainDecls) → IsSignature file ds bytes → ⊥)
+Answers file bytes (Err (Limit place)) = ⊥
+Answers file bytes (Err NoMemory) = Unit {0}

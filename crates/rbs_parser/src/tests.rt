@@ -1,0 +1,134 @@
+use crate::{ParseRefused, parse_classes};
+use plain_data::NoMemory;
+use sig_model::decl::{Decl, DeclBody, Part};
+use sig_model::place::Place;
+use std::alloc::Global;
+use std::test::Fail;
+
+const MAX_TEXT: usize = 1000;
+
+/// How many classes a text declares, or where it is refused.
+fn count(alloc: Global, bytes: &[u8]) -> Result<usize, ParseRefused> {
+    if bytes.len() > MAX_TEXT {
+        return Err(ParseRefused::NoMemory);
+    }
+    Ok(parse_classes(alloc, 3, bytes)?.len())
+}
+
+/// Adds the places of a class and of its methods, in order.
+fn add_places(decl: &Decl, places: &mut Vec<(u32, u32)>) -> Result<(), NoMemory> {
+    places.push((decl.place.start, decl.place.end))?;
+    if let DeclBody::Class { parts, .. } = &decl.body {
+        for part in parts.as_slice() {
+            if let Part::Member { place, .. } = part {
+                places.push((place.start, place.end))?;
+            }
+        }
+    }
+    Ok(())
+}
+
+fn places_of(alloc: Global, text: &str) -> Result<Vec<(u32, u32)>, NoMemory> {
+    let mut places = Vec::new(alloc);
+    if text.len() <= MAX_TEXT
+        && let Ok(decls) = parse_classes(alloc, 0, text.as_bytes())
+    {
+        for decl in decls.as_slice() {
+            add_places(decl, &mut places)?;
+        }
+    }
+    Ok(places)
+}
+
+#[test]
+fn places_are_in_bytes(rt: HostRuntime) -> Result<(), Fail> {
+    let text =
+        "# é\nclass Aé\t# of two\r\n  def one: () -> String\n\tdef _two2: ()->Aé end\nclass B\nend # B";
+    let places = places_of(rt.alloc(), text)?;
+    assert_eq!(rt;
+        places.as_slice(),
+        [(5, 72), (27, 48), (50, 68), (73, 84)].as_slice()
+    );
+    Ok(())
+}
+
+#[test]
+fn reads_good_texts(rt: HostRuntime) -> Result<(), Fail> {
+    let good: [(&str, usize); 9] = [
+        ("", 0),
+        ("# only a comment", 0),
+        ("\r\n\t # class A\n", 0),
+        ("class A end", 1),
+        ("class A end class B end # end", 2),
+        ("class A def initialize: () -> void end", 1),
+        (
+            "class A def a: () -> B def b: () -> Symbol end class B def a: () -> A end",
+            2,
+        ),
+        (
+            "class A def _foo: () -> nil def classes: () -> void def ende: () -> nil end",
+            1,
+        ),
+        ("class Nil def new_é: () -> Integer end", 1),
+    ];
+    for (text, classes) in good {
+        assert_eq!(rt; count(rt.alloc(), text.as_bytes()), Ok(classes), "{text}");
+    }
+    Ok(())
+}
+
+#[test]
+fn refuses_other_texts(rt: HostRuntime) -> Result<(), Fail> {
+    let bad: [&str; 29] = [
+        "class A",
+        "class A def a: () -> nil",
+        "class A end end",
+        "class A # end",
+        "class a end",
+        "class A::B end",
+        "class",
+        "end",
+        "-",
+        "class A - end",
+        "class A def a: () - > nil end",
+        "class A def a: () -> ::Integer end",
+        "class A def a: () -> (Integer) end",
+        "class A def a: () -> bool end",
+        "class A def a: (Integer, String) -> nil end",
+        "class A def a?: () -> nil end",
+        "class A def a: -> Integer end",
+        "class A end class A end",
+        "class A def a: () -> nil def a: () -> nil end",
+        "class A def a: () -> Missing end",
+        "class String end",
+        "class A def to_s: () -> String end",
+        "class A def send: () -> nil end",
+        "class A def __a: () -> nil end",
+        "class A def unless: () -> nil end",
+        "class A def initialize: () -> Integer end",
+        "class A def _Foo: () -> nil end",
+        "class A def Foo: () -> nil end",
+        "class \u{e9} end",
+    ];
+    let first = Place {
+        file: 3,
+        start: 0,
+        end: 0,
+    };
+    for text in bad {
+        assert_eq!(rt;
+            count(rt.alloc(), text.as_bytes()),
+            Err(ParseRefused::Syntax(first)),
+            "{text}"
+        );
+    }
+    assert_eq!(rt;
+        count(rt.alloc(), b"\xff"),
+        Err(ParseRefused::Syntax(first))
+    );
+    assert_eq!(rt;
+        count(rt.alloc(), b"# \xff\n"),
+        Err(ParseRefused::Syntax(first))
+    );
+    Ok(())
+}
