@@ -13,35 +13,81 @@ pub enum Mode {
     /// In a comment that gives no type.
     Comment,
     /// In a comment on a line of its own: what stands behind its `#`.
-    Note { start: u32, text: Many<char> },
-    Word { start: u32, text: Word },
+    Note {
+        start: u32,
+        text: Many<char>,
+    },
+    Word {
+        start: u32,
+        text: Word,
+    },
     /// Behind a minus sign.
-    Minus { start: u32 },
+    Minus {
+        start: u32,
+    },
     /// Behind a number's leading zero.
-    Zero { start: u32 },
-    Digits { start: u32, negative: bool, magnitude: u64 },
+    Zero {
+        start: u32,
+    },
+    Digits {
+        start: u32,
+        negative: bool,
+        magnitude: u64,
+    },
     /// Behind an underscore in a number.
-    Underscore { start: u32, negative: bool, magnitude: u64 },
+    Underscore {
+        start: u32,
+        negative: bool,
+        magnitude: u64,
+    },
     /// Between single quotes.
-    Single { start: u32, text: Word },
+    Single {
+        start: u32,
+        text: Word,
+    },
     /// Between single quotes, behind a backslash.
-    SingleEscape { start: u32, text: Word },
+    SingleEscape {
+        start: u32,
+        text: Word,
+    },
     /// Between double quotes.
-    Double { start: u32, text: Word },
+    Double {
+        start: u32,
+        text: Word,
+    },
     /// Between double quotes, behind a backslash.
-    DoubleEscape { start: u32, text: Word },
+    DoubleEscape {
+        start: u32,
+        text: Word,
+    },
     /// Between double quotes, behind a `#`.
-    DoubleHash { start: u32, text: Word },
+    DoubleHash {
+        start: u32,
+        text: Word,
+    },
     /// Behind the colon of a symbol.
-    Colon { start: u32 },
+    Colon {
+        start: u32,
+    },
     /// Behind the underscore that a symbol begins with.
-    Under { start: u32 },
+    Under {
+        start: u32,
+    },
     /// In a symbol that is a name.
-    SymbolWord { start: u32, text: Word },
+    SymbolWord {
+        start: u32,
+        text: Word,
+    },
     /// Behind the mark that ends a symbol's name.
-    SymbolEnding { start: u32, text: Word },
+    SymbolEnding {
+        start: u32,
+        text: Word,
+    },
     /// In a symbol that is an operator.
-    SymbolOperator { start: u32, text: Word },
+    SymbolOperator {
+        start: u32,
+        text: Word,
+    },
 }
 
 /// The tokens before the place, and what was read since.
