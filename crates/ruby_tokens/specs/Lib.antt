@@ -5,3 +5,5 @@ pub mod Starts
 pub mod Notes
 pub mod Machine
 pub mod Does
+pub mod Reads
+pub mod Answers
