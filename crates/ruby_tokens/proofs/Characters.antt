@@ -1,5 +1,5 @@
 -- Facts about single characters and their widths.
-use Rattle.std.proofs.Common.{ℕ, ◌≡◌, ◌≢◌, ◌+◌, ◌<◌, Bool, true, false, refl, sym, ◌∙◌, ap, subst, List, [], ◌∷◌, ◌++◌, length, append_assoc, arith, eqb, ltb, ⊎_elim, inl, inr}
+use Rattle.std.proofs.Common.{ℕ, ◌≡◌, ◌≢◌, ◌+◌, ◌-◌, ◌^◌, ◌<◌, ◌≤◌, Bool, true, false, refl, sym, ◌∙◌, ap, subst, List, [], ◌∷◌, ◌++◌, length, append_assoc, arith, eqb, ltb, ⊎_elim, inl, inr}
 use Rattle.std.specs.Prelude.{◌&&◌, ◌||◌, ◌==◌, not, nat_lt, codes, encode_utf8_all}
 use Rattle.std.proofs.lemmas.List.{append-nil, length-append}
 use Rattle.std.proofs.lemmas.Bool.{eqb-true}
@@ -122,3 +122,6 @@ upper_name c e = grind arith
 -- the marks that end a name are ASCII
 pub ending_mark : (c : ℕ) → is_ending c ≡ true → nat_lt c 128 ≡ true
 ending_mark c e = grind arith
+
+pub digit_small : (c : ℕ) → is_ascii_digit c ≡ true → c - 48 ≤ 2 ^ 63 - 1
+digit_small c e = grind arith

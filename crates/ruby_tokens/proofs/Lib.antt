@@ -6,3 +6,10 @@ pub mod NumberRead
 pub mod SymbolRead
 pub mod NoteRead
 pub mod Complete
+pub mod From
+pub mod Sorts
+pub mod Begins
+pub mod Loop
+pub mod Steps
+pub mod Sound
+pub mod Exact

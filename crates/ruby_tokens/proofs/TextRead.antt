@@ -54,7 +54,7 @@ escape_is escape_quote = refl
 escape_is escape_backslash = refl
 escape_is escape_hash = refl
 
-escape_one : {c d : ℕ} → IsEscape c d → length (encode_utf8 c) ≡ 1
+pub escape_one : {c d : ℕ} → IsEscape c d → length (encode_utf8 c) ≡ 1
 escape_one escape_newline = one_byte 110 refl
 escape_one escape_tab = one_byte 116 refl
 escape_one escape_quote = one_byte 34 refl

@@ -1,6 +1,10 @@
 //! The tokens of a text.
 
 ghost use Rattle.std.specs.Prelude.{◌≡◌, ◌+◌, ◌^◌, ◌<◌, length, IfOk};
+ghost use Rattle.source_text.specs.Characters.{width};
+ghost use Rattle.ruby_tokens.specs.Reads.{reads, first};
+ghost use Rattle.ruby_tokens.specs.Does.{Ends};
+ghost use Rattle.ruby_tokens.specs.Answers.{Answers};
 
 use crate::lexer::{ends, step};
 use crate::mode::{Lexer, Mode};
@@ -11,7 +15,10 @@ use source_text::characters;
 use std::alloc::Global;
 
 /// The tokens of the characters, which begin at the byte 0.
-fn tokens_of(alloc: Global, characters: &[char]) -> Result<Many<Token>, Refused> {
+fn tokens_of(alloc: Global, characters: &[char]) -> Result<Many<Token>, Refused>
+    requires { width characters.now < 2 ^ 32 }
+    ensures { Ends (reads first 0 characters.now) result }
+{
     let mut lexer = Lexer {
         tokens: Many::new(alloc),
         mode: Mode::LineStart,
@@ -28,6 +35,7 @@ fn tokens_of(alloc: Global, characters: &[char]) -> Result<Many<Token>, Refused>
 /// no token of the profile.
 pub fn tokens(alloc: Global, bytes: &[u8]) -> Result<Option<Many<Token>>, NoMemory>
     requires { length bytes.now < 2 ^ 32 }
+    ensures { IfOk result (λ found. Answers bytes.now found) }
 {
     let Some(characters) = characters(alloc, bytes)? else {
         return Ok(None);
