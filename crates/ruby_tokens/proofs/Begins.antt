@@ -36,14 +36,14 @@ begins_word c cs at s k n rest (w, r, e, f) =
 begins_zero : (cs : List ℕ) (at : ℕ) (k : Kind) (n : ℕ) (rest : List ℕ) → Completes (mode.Zero at) k n cs rest → Lexes k (length (encode_utf8 48) + n) (48 ∷ cs) rest
 begins_zero cs at k n rest (r, h, e, f) =
     subst (λ k. Lexes k (length (encode_utf8 48) + n) (48 ∷ cs) rest) (sym e)
-      (subst (λ rest. Lexes (kind.Integer (pos 0)) (length (encode_utf8 48) + n) (48 ∷ cs) rest) r
-        (lexes_at 1 _ (lex_integer (plus (omega arith) (zero_alone h))) (omega (arith, one_byte 48 refl, f))))
+    (subst (λ rest. Lexes (kind.Integer (pos 0)) (length (encode_utf8 48) + n) (48 ∷ cs) rest) r
+    (lexes_at 1 _ (lex_integer (plus (omega arith) (zero_alone h))) (omega (arith, one_byte 48 refl, f))))
 
 begins_digit : (c : ℕ) (cs : List ℕ) (at : ℕ) → is_ascii_digit c ≡ true → c ≢ 48 → (k : Kind) (n : ℕ) (rest : List ℕ) → Completes (mode.Digits at false (c - 48)) k n cs rest → Lexes k (length (encode_utf8 c) + n) (c ∷ cs) rest
 begins_digit c cs at d z k n rest (v, ds, l, e) =
     let small : v ≤ limit false = l (digit_small c d) in
     subst (λ k. Lexes k (length (encode_utf8 c) + n) (c ∷ cs) rest) (sym e)
-      (lexes_at (n + 1) _ (lex_integer (plus (omega arith) (nonzero d z ds))) (omega (arith, one_byte c (digit_ascii c d))))
+    (lexes_at (n + 1) _ (lex_integer (plus (omega arith) (nonzero d z ds))) (omega (arith, one_byte c (digit_ascii c d))))
 
 begins_minus : (cs : List ℕ) (at : ℕ) (k : Kind) (n : ℕ) (rest : List ℕ) → Completes (mode.Minus at) k n cs rest → Lexes k (length (encode_utf8 45) + n) (45 ∷ cs) rest
 begins_minus cs at k n rest (v, m, l, e) =
@@ -78,8 +78,8 @@ either_line : {text cs rest : List ℕ} {us : List Token} (ts : List Token) (at 
     → ts ≡ (if is_type_note text then made kind.TypeNote at m ∷ us else us) → Divides blank_line at ts (35 ∷ cs)
 either_line {text = text} {cs = cs} {us = us} ts at m r e d =
     choose (λ x. ts ≡ x → Divides blank_line at ts (35 ∷ cs)) (is_type_note text) (made kind.TypeNote at m ∷ us) us
-      (λ t i. subst (λ ts. Divides blank_line at ts (35 ∷ cs)) (sym i) (note_line at m r e d t))
-      (λ f i. subst (λ ts. Divides blank_line at ts (35 ∷ cs)) (sym i) (plain_line at m r e d f))
+    (λ t i. subst (λ ts. Divides blank_line at ts (35 ∷ cs)) (sym i) (note_line at m r e d t))
+    (λ f i. subst (λ ts. Divides blank_line at ts (35 ∷ cs)) (sym i) (plain_line at m r e d f))
 
 module _ (tokens : List Token) (at : ℕ) (cs : List ℕ) where
   -- what a character of a sort leads to, read backwards

@@ -17,9 +17,10 @@ module _ (bytes cs : List ℕ) (u : IsUtf8 bytes) (e : cs ≡ chars bytes) where
 
   pub found : (ts : List Token) → reads first 0 cs ≡ Some ts → Answers bytes (Some ts)
   found ts f =
-      let run : reads first 0 (chars bytes) ≡ Some ts = ap (reads first 0) (sym e) ∙ f in
-      (record { utf8 = u; divided = reads_divides (chars bytes) ts run },
-      λ us d. let same : Some us ≡ Some ts = sym (divides_read [] d.divided) ∙ run in cc)
+      let run : reads first 0 (chars bytes) ≡ Some ts = ap (reads first 0) (sym e) ∙ f in (
+        record { utf8 = u; divided = reads_divides (chars bytes) ts run },
+        λ us d. let same : Some us ≡ Some ts = sym (divides_read [] d.divided) ∙ run in cc,
+      )
 
   pub not_found : reads first 0 cs ≡ None → Answers bytes None
   not_found f = λ ts d. let same : Some ts ≡ None = sym (divides_read [] d.divided) ∙ ap (reads first 0) (sym e) ∙ f in cc

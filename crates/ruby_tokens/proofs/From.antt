@@ -62,7 +62,7 @@ From mode.InLine at ts cs = Divides in_line at ts cs
 From mode.Comment at ts cs = (text : List ℕ) × (rest : List ℕ) × Run is_in_line text cs rest × Divides in_line (at + width text) ts rest
 From (mode.Note start text) at ts cs =
     (w : List ℕ) × (rest : List ℕ) × (us : List Token) × Run is_in_line w cs rest × Divides in_line (at + width w) us rest
-      × (ts ≡ (if is_type_note (text ++ w) then made kind.TypeNote start (at + width w) ∷ us else us))
+    × (ts ≡ (if is_type_note (text ++ w) then made kind.TypeNote start (at + width w) ∷ us else us))
 From (mode.Word start text) at ts cs = FromToken (mode.Word start text) start at ts cs
 From (mode.Minus start) at ts cs = FromToken (mode.Minus start) start at ts cs
 From (mode.Zero start) at ts cs = FromToken (mode.Zero start) start at ts cs
@@ -95,7 +95,10 @@ pub keeps : {start at : ℕ} {ts : List Token} {cs : List ℕ} (m m' : Mode) (c 
 keeps {start = start} {at = at} m m' c more f =
     let same : (at + length (encode_utf8 c)) + f.n ≡ at + (length (encode_utf8 c) + f.n) = omega arith in
     record {
-      k = f.k; n = length (encode_utf8 c) + f.n; rest = f.rest; us = f.us;
+      k = f.k;
+      n = length (encode_utf8 c) + f.n;
+      rest = f.rest;
+      us = f.us;
       completes = more f.k f.n f.rest f.completes;
       divides = subst (λ n. Divides (after f.k) n f.us f.rest) same f.divides;
       is = f.is ∙ ap (λ n. made f.k start n ∷ f.us) same;
@@ -108,16 +111,20 @@ pub begins : {at : ℕ} {ts : List Token} {cs : List ℕ} (b : Before) (m : Mode
 begins {at = at} {cs = cs} b m c more f =
     let same : (at + length (encode_utf8 c)) + f.n ≡ at + (length (encode_utf8 c) + f.n) = omega arith in
     subst (λ ts. Divides b at ts (c ∷ cs)) (sym (f.is ∙ ap (λ n. made f.k at n ∷ f.us) same))
-      (token (more f.k f.n f.rest f.completes) (subst (λ n. Divides (after f.k) n f.us f.rest) same f.divides))
+    (token (more f.k f.n f.rest f.completes) (subst (λ n. Divides (after f.k) n f.us f.rest) same f.divides))
 
 -- a token that ends where the place is
 pub closed : {start at : ℕ} {us : List Token} {cs : List ℕ} (m : Mode) (k : Kind) → Completes m k 0 cs cs → after k ≡ in_line → Divides in_line at us cs
     → FromToken m start at (made k start at ∷ us) cs
 closed {start = start} {at = at} {us = us} {cs = cs} m k done e d = record {
-    k = k; n = 0; rest = cs; us = us; completes = done;
-    divides = subst (λ n. Divides (after k) n us cs) (sym (add-zero at)) (subst (λ b. Divides b at us cs) (sym e) d);
-    is = ap (λ n. made k start n ∷ us) (sym (add-zero at));
-  }
+  k = k;
+  n = 0;
+  rest = cs;
+  us = us;
+  completes = done;
+  divides = subst (λ n. Divides (after k) n us cs) (sym (add-zero at)) (subst (λ b. Divides b at us cs) (sym e) d);
+  is = ap (λ n. made k start n ∷ us) (sym (add-zero at));
+}
 
 -- a token that ends before the character, which is taken anew
 pub ended_back : (tokens : List Token) (m : Mode) (k : Kind) (start at c : ℕ) (cs : List ℕ) (o : Option Lexer) → Completes m k 0 (c ∷ cs) (c ∷ cs) → after k ≡ in_line
@@ -129,9 +136,16 @@ ended_back tokens m k start at c cs (Some l) done e b = λ us f.
 -- a character that ends its token
 pub last_back : {us : List Token} {cs : List ℕ} (tokens : List Token) (start at : ℕ) (m : Mode) (k : Kind) (c : ℕ) → length (encode_utf8 c) ≡ 1 → Completes m k 1 (c ∷ cs) cs → after k ≡ in_line
     → Divides in_line (at + length (encode_utf8 c)) us cs → (ts : List Token) × (with_token tokens k start (at + 1) ++ us ≡ tokens ++ ts) × FromToken m start at ts (c ∷ cs)
-last_back {us = us} {cs = cs} tokens start at m k c o done e d =
-    (made k start (at + 1) ∷ us, append_assoc tokens (made k start (at + 1) ∷ []) us, record {
-      k = k; n = 1; rest = cs; us = us; completes = done;
-      divides = subst (λ n. Divides (after k) (at + n) us cs) o (subst (λ b. Divides b (at + length (encode_utf8 c)) us cs) (sym e) d);
-      is = refl;
-    })
+last_back {us = us} {cs = cs} tokens start at m k c o done e d = (
+  made k start (at + 1) ∷ us,
+  append_assoc tokens (made k start (at + 1) ∷ []) us,
+  record {
+    k = k;
+    n = 1;
+    rest = cs;
+    us = us;
+    completes = done;
+    divides = subst (λ n. Divides (after k) (at + n) us cs) o (subst (λ b. Divides b (at + length (encode_utf8 c)) us cs) (sym e) d);
+    is = refl;
+  },
+)

@@ -101,17 +101,17 @@ find_blanks : (cs rest : List ℕ) → after_blanks cs ≡ Some rest → Blanks 
 find_blanks [] rest e = cc
 find_blanks (c ∷ cs) rest e = bool_cases (is_blank c)
     (λ h. let run = skip_run is_blank cs in
-      let same : Some (skip is_blank cs) ≡ Some rest = sym (blanks_here c cs h) ∙ e in
-      let is : skip is_blank cs ≡ rest = cc in
-      record { first = c; more = run.0; behind = cs; is = refl; blank = h; run = subst (λ r. Run is_blank run.0 cs r) is run.1 })
+    let same : Some (skip is_blank cs) ≡ Some rest = sym (blanks_here c cs h) ∙ e in
+    let is : skip is_blank cs ≡ rest = cc in
+    record { first = c; more = run.0; behind = cs; is = refl; blank = h; run = subst (λ r. Run is_blank run.0 cs r) is run.1 })
     (λ h. let none : None ≡ Some rest = sym (blanks_not c cs h) ∙ e in cc)
 
 find_letters : (ls cs rest : List ℕ) → after_letters ls cs ≡ Some rest → cs ≡ ls ++ rest
 find_letters ls cs rest e = bool_cases (pointwise nat_eq (take (length ls) cs) ls)
     (λ h. let same : Some (drop (length ls) cs) ≡ Some rest = sym (letters_here ls cs h) ∙ e in
-      let is : drop (length ls) cs ≡ rest = cc in
-      let front : take (length ls) cs ≡ ls = (bytes_eq-Decides (take (length ls) cs) ls).0 h in
-      sym (take-append-drop (length ls) cs) ∙ ap (λ w. w ++ drop (length ls) cs) front ∙ ap (λ r. ls ++ r) is)
+    let is : drop (length ls) cs ≡ rest = cc in
+    let front : take (length ls) cs ≡ ls = (bytes_eq-Decides (take (length ls) cs) ls).0 h in
+    sym (take-append-drop (length ls) cs) ∙ ap (λ w. w ++ drop (length ls) cs) front ∙ ap (λ r. ls ++ r) is)
     (λ h. let none : None ≡ Some rest = sym (letters_not ls cs h) ∙ e in cc)
 
 record Named (cs : List ℕ) : Type 0 where
@@ -146,9 +146,9 @@ then_some f (Some x) y e = (x, refl, e)
 assemble : (text r1 r2 r3 r4 r5 : List ℕ) → Blanks text r1 → r1 ≡ codes "@type" ++ r2 → Blanks r2 r3 → r3 ≡ codes "var" ++ r4 → Blanks r4 r5 → Named r5 → IsTypeNote text
 assemble text r1 r2 r3 r4 r5 a e b f c d =
     subst IsTypeNote (sym a.is) (type_note {a = a.first} {b = b.first} {c = c.first} {d = d.first} a.blank
-      (subst (λ r. Run is_blank a.more a.behind r) (e ∙ ap (λ r. codes "@type" ++ r) b.is) a.run) b.blank
-      (subst (λ r. Run is_blank b.more b.behind r) (f ∙ ap (λ r. codes "var" ++ r) c.is) b.run) c.blank
-      (subst (λ r. Run is_blank c.more c.behind r) d.is c.run) d.begins d.run)
+    (subst (λ r. Run is_blank a.more a.behind r) (e ∙ ap (λ r. codes "@type" ++ r) b.is) a.run) b.blank
+    (subst (λ r. Run is_blank b.more b.behind r) (f ∙ ap (λ r. codes "var" ++ r) c.is) b.run) c.blank
+    (subst (λ r. Run is_blank c.more c.behind r) d.is c.run) d.begins d.run)
 
 pub find_note : (text : List ℕ) → is_type_note text ≡ true → IsTypeNote text
 find_note text e =
@@ -158,7 +158,7 @@ find_note text e =
     let blanks2 = then_some after_blanks _ var.0 var.1 in
     let type = then_some (after_letters (codes "@type")) (after_blanks text) blanks2.0 blanks2.1 in
     assemble text type.0 blanks2.0 var.0 blanks3.0 named.0 (find_blanks text type.0 type.1) (find_letters (codes "@type") type.0 blanks2.0 type.2)
-      (find_blanks blanks2.0 var.0 blanks2.2) (find_letters (codes "var") var.0 blanks3.0 var.2) (find_blanks blanks3.0 named.0 blanks3.2) (find_name named.0 named.2)
+    (find_blanks blanks2.0 var.0 blanks2.2) (find_letters (codes "var") var.0 blanks3.0 var.2) (find_blanks blanks3.0 named.0 blanks3.2) (find_name named.0 named.2)
 
 pub no_note : {text : List ℕ} → (IsTypeNote text → ⊥) → is_type_note text ≡ false
 no_note {text = text} h = not_true (is_type_note text) (λ e. h (find_note text e))

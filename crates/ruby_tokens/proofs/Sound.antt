@@ -63,10 +63,19 @@ noted_is tokens start at false = sym (append-nil tokens)
 
 note_end : (tokens : List Token) (start at : ℕ) (text : List ℕ) → EndBack (λ ts. From (mode.Note start text) at ts []) tokens (Some (noted tokens start text at))
 note_end tokens start at text =
-    let ts : List Token = if is_type_note text then made kind.TypeNote start at ∷ [] else [] in
-    (ts, noted_is tokens start at (is_type_note text), ([], [], [], run_ends, subst (λ n. Divides in_line n [] []) (sym (add-zero at)) ended,
-      ap (λ n. if is_type_note text then made kind.TypeNote start n ∷ [] else []) (sym (add-zero at))
-      ∙ ap (λ t. if is_type_note t then made kind.TypeNote start (at + 0) ∷ [] else []) (sym (append-nil text))))
+    let ts : List Token = if is_type_note text then made kind.TypeNote start at ∷ [] else [] in (
+      ts,
+      noted_is tokens start at (is_type_note text),
+      (
+        [],
+        [],
+        [],
+        run_ends,
+        subst (λ n. Divides in_line n [] []) (sym (add-zero at)) ended,
+        ap (λ n. if is_type_note text then made kind.TypeNote start n ∷ [] else []) (sym (add-zero at))
+            ∙ ap (λ t. if is_type_note t then made kind.TypeNote start (at + 0) ∷ [] else []) (sym (append-nil text)),
+      ),
+    )
 
 under_end : IsSymbol (95 ∷ []) 1 (95 ∷ []) []
 under_end = subst (λ n. IsSymbol (95 ∷ []) n (95 ∷ []) []) (width_one 95 ∙ one_byte 95 refl) (symbol_word refl run_ends tt tt)

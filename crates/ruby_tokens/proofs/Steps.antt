@@ -75,7 +75,7 @@ escape_found c d =
     choose (λ o. o ≡ Some d → IsEscape c d) (c == 34) (Some 34) _ (λ e f. pair 34 34 (eqb-true c 34 e) f escape_quote) (λ e.
     choose (λ o. o ≡ Some d → IsEscape c d) (c == 92) (Some 92) _ (λ e f. pair 92 92 (eqb-true c 92 e) f escape_backslash) (λ e.
     choose (λ o. o ≡ Some d → IsEscape c d) (c == 35) (Some 35) None (λ e f. pair 35 35 (eqb-true c 35 e) f escape_hash) (λ e f. cc)))))
-    
+
 not_interface : (c : ℕ) (w : List ℕ) → (c == 95) ≡ false → NotInterface c w
 not_interface c [] e = tt
 not_interface c (d ∷ w) e = rw e
@@ -130,7 +130,7 @@ module _ (tokens : List Token) (start at c : ℕ) (cs : List ℕ) where
   pub word_back : (text : List ℕ) → Behind (mode.Word start text) (in_word tokens start text at c)
   word_back text = choose (Behind (mode.Word start text)) (is_name_character c) (Some (lexer tokens (mode.Word start (text ++ encode_utf8 c)))) (behind tokens (word_kind text) start at c)
       (λ p us f. on (mode.Word start text) (mode.Word start (text ++ encode_utf8 c)) us f (λ k n rest (w, r, e, i).
-        (c ∷ w, run_goes p r, text_as word_kind k text w c e, ap (λ n. length (encode_utf8 c) + n) i ∙ sym (width_more c w))))
+      (c ∷ w, run_goes p r, text_as word_kind k text w c e, ap (λ n. length (encode_utf8 c) + n) i ∙ sym (width_more c w))))
       (λ p. behind_back (mode.Word start text) (word_kind text) ([], run_stops p, text_end word_kind text, refl) (after_word text))
 
   -- Numbers.
@@ -152,29 +152,33 @@ module _ (tokens : List Token) (start at c : ℕ) (cs : List ℕ) where
   digits_back minus q = choose (Behind (mode.Digits start minus q)) (is_ascii_digit c) (digit tokens start minus q c)
       (if c == 95 then Some (lexer tokens (mode.Underscore start minus q)) else behind tokens (kind.Integer (signed minus q)) start at c)
       (λ d. digit_back (mode.Digits start minus q) minus q (λ p k n rest (v, ds, l, e).
-        (v, digits_at (n + 1) _ (digits_more d ds) (omega (arith, one_byte c (digit_ascii c d))), (λ _. l p), e)))
+      (v, digits_at (n + 1) _ (digits_more d ds) (omega (arith, one_byte c (digit_ascii c d))), (λ _. l p), e)))
       (λ d. choose (Behind (mode.Digits start minus q)) (c == 95) (Some (lexer tokens (mode.Underscore start minus q))) (behind tokens (kind.Integer (signed minus q)) start at c)
-        (λ u us f. on (mode.Digits start minus q) (mode.Underscore start minus q) us f (under_at minus q (eqb-true c 95 u)))
-        (λ u. behind_back (mode.Digits start minus q) (kind.Integer (signed minus q)) (q, digits_end (both_false (is_ascii_digit c) (c == 95) d u), (λ l. l), refl) refl))
+      (λ u us f. on (mode.Digits start minus q) (mode.Underscore start minus q) us f (under_at minus q (eqb-true c 95 u)))
+      (λ u. behind_back (mode.Digits start minus q) (kind.Integer (signed minus q)) (q, digits_end (both_false (is_ascii_digit c) (c == 95) d u), (λ l. l), refl) refl))
 
   pub underscore_back : (minus : Bool) (q : ℕ) → Behind (mode.Underscore start minus q) (in_underscore tokens start minus q c)
   underscore_back minus q = choose (Behind (mode.Underscore start minus q)) (is_ascii_digit c) (digit tokens start minus q c) None
       (λ d. digit_back (mode.Underscore start minus q) minus q (λ p k n rest (v, ds, l, e).
-        (v, digits_at (n + 2) _ (digits_under d ds) (omega (arith, one_byte c (digit_ascii c d))), (λ _. l p), e)))
+      (v, digits_at (n + 2) _ (digits_under d ds) (omega (arith, one_byte c (digit_ascii c d))), (λ _. l p), e)))
       (λ d. tt)
 
   minus_zero : c ≡ 48 → More (mode.Minus start) (mode.Zero start)
-  minus_zero z k n rest (r, h, e, i) =
-      (0, subst (λ d. Magnitude 0 (length (encode_utf8 d) + n) (d ∷ cs) rest) (sym z)
-        (subst (λ rest. Magnitude 0 (length (encode_utf8 48) + n) (48 ∷ cs) rest) r (magnitude_at 1 _ (zero_alone h) (omega (arith, one_byte 48 refl, i)))), omega arith, e)
+  minus_zero z k n rest (r, h, e, i) = (
+    0,
+    subst (λ d. Magnitude 0 (length (encode_utf8 d) + n) (d ∷ cs) rest) (sym z)
+        (subst (λ rest. Magnitude 0 (length (encode_utf8 48) + n) (48 ∷ cs) rest) r (magnitude_at 1 _ (zero_alone h) (omega (arith, one_byte 48 refl, i)))),
+    omega arith,
+    e,
+  )
 
   pub minus_back : Behind (mode.Minus start) (in_minus tokens start c)
   minus_back = choose (Behind (mode.Minus start)) (c == 48) (Some (lexer tokens (mode.Zero start))) (if is_ascii_digit c then Some (lexer tokens (mode.Digits start true (c - 48))) else None)
       (λ z us f. on (mode.Minus start) (mode.Zero start) us f (minus_zero (eqb-true c 48 z)))
       (λ z. choose (Behind (mode.Minus start)) (is_ascii_digit c) (Some (lexer tokens (mode.Digits start true (c - 48)))) None
-        (λ d us f. on (mode.Minus start) (mode.Digits start true (c - 48)) us f (λ k n rest (v, ds, l, e).
-          (v, magnitude_at (n + 1) _ (nonzero d (unequal c 48 z) ds) (omega (arith, one_byte c (digit_ascii c d))), l (omega (arith, digit_small c d)), e)))
-        (λ d. tt))
+      (λ d us f. on (mode.Minus start) (mode.Digits start true (c - 48)) us f (λ k n rest (v, ds, l, e).
+      (v, magnitude_at (n + 1) _ (nonzero d (unequal c 48 z) ds) (omega (arith, one_byte c (digit_ascii c d))), l (omega (arith, digit_small c d)), e)))
+      (λ d. tt))
 
   -- Strings.
   single_last : (text : List ℕ) → c ≡ 39 → (us : List Token) → Divides in_line (at + length (encode_utf8 c)) us cs
@@ -191,9 +195,9 @@ module _ (tokens : List Token) (start at c : ℕ) (cs : List ℕ) where
       (if c == 92 then Some (lexer tokens (mode.SingleEscape start text)) else Some (lexer tokens (mode.Single start (text ++ encode_utf8 c))))
       (λ q us d. single_last text (eqb-true c 39 q) us d)
       (λ q. choose (Behind (mode.Single start text)) (c == 92) (Some (lexer tokens (mode.SingleEscape start text))) (Some (lexer tokens (mode.Single start (text ++ encode_utf8 c))))
-        (λ b us f. on (mode.Single start text) (mode.SingleEscape start text) us f (single_slash text (eqb-true c 92 b)))
-        (λ b us f. on (mode.Single start text) (mode.Single start (text ++ encode_utf8 c)) us f (λ k n rest (v, d, e).
-          (c ∷ v, single_plain (single_plain_is c q b) d (omega (arith, width_one c)), text_as kind.Text k text v c e))))
+      (λ b us f. on (mode.Single start text) (mode.SingleEscape start text) us f (single_slash text (eqb-true c 92 b)))
+      (λ b us f. on (mode.Single start text) (mode.Single start (text ++ encode_utf8 c)) us f (λ k n rest (v, d, e).
+      (c ∷ v, single_plain (single_plain_is c q b) d (omega (arith, width_one c)), text_as kind.Text k text v c e))))
 
   quote_at : (text : List ℕ) → (c == 39 || c == 92) ≡ true → More (mode.SingleEscape start text) (mode.Single start (text ++ encode_utf8 c))
   quote_at text q k n rest (v, d, e) = or_cases (c == 39) (c == 92) q
@@ -205,8 +209,8 @@ module _ (tokens : List Token) (start at c : ℕ) (cs : List ℕ) where
       (Some (lexer tokens (mode.Single start ((text ++ encode_utf8 92) ++ encode_utf8 c))))
       (λ q us f. on (mode.SingleEscape start text) (mode.Single start (text ++ encode_utf8 c)) us f (quote_at text q))
       (λ q us f. on (mode.SingleEscape start text) (mode.Single start ((text ++ encode_utf8 92) ++ encode_utf8 c)) us f (λ k n rest (v, d, e).
-        let both = or_false (c == 39) (c == 92) q in
-        (92 ∷ c ∷ v, single_other (single_plain_is c both.0 both.1) d (omega (arith, width_one c)), text_as kind.Text k text (c ∷ v) 92 (text_as kind.Text k (text ++ encode_utf8 92) v c e))))
+      let both = or_false (c == 39) (c == 92) q in
+      (92 ∷ c ∷ v, single_other (single_plain_is c both.0 both.1) d (omega (arith, width_one c)), text_as kind.Text k text (c ∷ v) 92 (text_as kind.Text k (text ++ encode_utf8 92) v c e))))
 
   double_last : (text : List ℕ) → c ≡ 34 → (us : List Token) → Divides in_line (at + length (encode_utf8 c)) us cs
       → (ts : List Token) × (with_token tokens (kind.Text text) start (at + 1) ++ us ≡ tokens ++ ts) × FromToken (mode.Double start text) start at ts (c ∷ cs)
@@ -226,12 +230,12 @@ module _ (tokens : List Token) (start at c : ℕ) (cs : List ℕ) where
       (if c == 92 then Some (lexer tokens (mode.DoubleEscape start text)) else if c == 35 then Some (lexer tokens (mode.DoubleHash start (text ++ encode_utf8 35))) else Some (lexer tokens (mode.Double start (text ++ encode_utf8 c))))
       (λ q us d. double_last text (eqb-true c 34 q) us d)
       (λ q. choose (Behind (mode.Double start text)) (c == 92) (Some (lexer tokens (mode.DoubleEscape start text)))
-        (if c == 35 then Some (lexer tokens (mode.DoubleHash start (text ++ encode_utf8 35))) else Some (lexer tokens (mode.Double start (text ++ encode_utf8 c))))
-        (λ b us f. on (mode.Double start text) (mode.DoubleEscape start text) us f (double_slash text (eqb-true c 92 b)))
-        (λ b. choose (Behind (mode.Double start text)) (c == 35) (Some (lexer tokens (mode.DoubleHash start (text ++ encode_utf8 35)))) (Some (lexer tokens (mode.Double start (text ++ encode_utf8 c))))
-          (λ h us f. on (mode.Double start text) (mode.DoubleHash start (text ++ encode_utf8 35)) us f (hash_at text (eqb-true c 35 h)))
-          (λ h us f. on (mode.Double start text) (mode.Double start (text ++ encode_utf8 c)) us f (λ k n rest (v, d, e).
-            (c ∷ v, double_plain (double_plain_is c q b h) d (omega (arith, width_one c)), text_as kind.Text k text v c e)))))
+      (if c == 35 then Some (lexer tokens (mode.DoubleHash start (text ++ encode_utf8 35))) else Some (lexer tokens (mode.Double start (text ++ encode_utf8 c))))
+      (λ b us f. on (mode.Double start text) (mode.DoubleEscape start text) us f (double_slash text (eqb-true c 92 b)))
+      (λ b. choose (Behind (mode.Double start text)) (c == 35) (Some (lexer tokens (mode.DoubleHash start (text ++ encode_utf8 35)))) (Some (lexer tokens (mode.Double start (text ++ encode_utf8 c))))
+      (λ h us f. on (mode.Double start text) (mode.DoubleHash start (text ++ encode_utf8 35)) us f (hash_at text (eqb-true c 35 h)))
+      (λ h us f. on (mode.Double start text) (mode.Double start (text ++ encode_utf8 c)) us f (λ k n rest (v, d, e).
+      (c ∷ v, double_plain (double_plain_is c q b h) d (omega (arith, width_one c)), text_as kind.Text k text v c e)))))
 
   escape_at : (text : List ℕ) (meant : ℕ) → IsEscape c meant → More (mode.DoubleEscape start text) (mode.Double start (text ++ encode_utf8 meant))
   escape_at text meant i k n rest (v, d, e) = (meant ∷ v, double_at (2 + n) _ (double_escape i d) (omega (arith, escape_one i)), text_as kind.Text k text v meant e)
@@ -250,9 +254,11 @@ module _ (tokens : List Token) (start at c : ℕ) (cs : List ℕ) where
 
   -- Symbols.
   ending_at : (text : List ℕ) → is_name_character c ≡ false → is_ending c ≡ true → More (mode.SymbolWord start text) (mode.SymbolEnding start (text ++ encode_utf8 c))
-  ending_at text p i k n rest (r, h, e, z) =
-      (c ∷ [], subst (λ rest. Body (c ∷ []) (length (encode_utf8 c) + n) (c ∷ cs) rest) r (body_at 1 _ (body_ending (run_stops p) i h) (omega (arith, one_byte c (ending_mark c i), z))),
-        e ∙ ap (λ t. kind.Symbol (text ++ t)) (sym (append-nil (encode_utf8 c))))
+  ending_at text p i k n rest (r, h, e, z) = (
+    c ∷ [],
+    subst (λ rest. Body (c ∷ []) (length (encode_utf8 c) + n) (c ∷ cs) rest) r (body_at 1 _ (body_ending (run_stops p) i h) (omega (arith, one_byte c (ending_mark c i), z))),
+    e ∙ ap (λ t. kind.Symbol (text ++ t)) (sym (append-nil (encode_utf8 c))),
+  )
 
   pub symbol_ending_back : (text : List ℕ) → Behind (mode.SymbolEnding start text) (in_symbol_ending tokens start text at c)
   symbol_ending_back text = choose (Behind (mode.SymbolEnding start text)) (is_mark c) None (behind tokens (kind.Symbol text) start at c)
@@ -263,19 +269,19 @@ module _ (tokens : List Token) (start at c : ℕ) (cs : List ℕ) where
       (if is_ending c then Some (lexer tokens (mode.SymbolEnding start (text ++ encode_utf8 c))) else if is_mark c then None else behind tokens (kind.Symbol text) start at c)
       (λ p us f. on (mode.SymbolWord start text) (mode.SymbolWord start (text ++ encode_utf8 c)) us f (λ k n rest (v, b, e). (c ∷ v, body_more n c p b, text_as kind.Symbol k text v c e)))
       (λ p. choose (Behind (mode.SymbolWord start text)) (is_ending c) (Some (lexer tokens (mode.SymbolEnding start (text ++ encode_utf8 c)))) (if is_mark c then None else behind tokens (kind.Symbol text) start at c)
-        (λ i us f. on (mode.SymbolWord start text) (mode.SymbolEnding start (text ++ encode_utf8 c)) us f (ending_at text p i))
-        (λ i. choose (Behind (mode.SymbolWord start text)) (is_mark c) None (behind tokens (kind.Symbol text) start at c)
-          (λ m. tt)
-          (λ m. behind_back (mode.SymbolWord start text) (kind.Symbol text) ([], body_word (run_stops p) m, text_end kind.Symbol text) refl)))
+      (λ i us f. on (mode.SymbolWord start text) (mode.SymbolEnding start (text ++ encode_utf8 c)) us f (ending_at text p i))
+      (λ i. choose (Behind (mode.SymbolWord start text)) (is_mark c) None (behind tokens (kind.Symbol text) start at c)
+      (λ m. tt)
+      (λ m. behind_back (mode.SymbolWord start text) (kind.Symbol text) ([], body_word (run_stops p) m, text_end kind.Symbol text) refl)))
 
   pub symbol_operator_back : (text : List ℕ) → Behind (mode.SymbolOperator start text) (in_symbol_operator tokens start text at c)
   symbol_operator_back text = choose (Behind (mode.SymbolOperator start text)) (is_mark c) (Some (lexer tokens (mode.SymbolOperator start (text ++ encode_utf8 c))))
       (if is_among text operators then behind tokens (kind.Symbol text) start at c else None)
       (λ m us f. on (mode.SymbolOperator start text) (mode.SymbolOperator start (text ++ encode_utf8 c)) us f (λ k n rest (w, r, o, e, i).
-        (c ∷ w, run_goes m r, among_at _ _ (append_assoc text (encode_utf8 c) (encode_utf8_all w)) o, text_as kind.Symbol k text w c e, ap (λ n. length (encode_utf8 c) + n) i ∙ sym (width_more c w))))
+      (c ∷ w, run_goes m r, among_at _ _ (append_assoc text (encode_utf8 c) (encode_utf8_all w)) o, text_as kind.Symbol k text w c e, ap (λ n. length (encode_utf8 c) + n) i ∙ sym (width_more c w))))
       (λ m. choose (Behind (mode.SymbolOperator start text)) (is_among text operators) (behind tokens (kind.Symbol text) start at c) None
-        (λ o. behind_back (mode.SymbolOperator start text) (kind.Symbol text) ([], run_stops m, among_at _ _ (sym (append-nil text)) o, text_end kind.Symbol text, refl) refl)
-        (λ o. tt))
+      (λ o. behind_back (mode.SymbolOperator start text) (kind.Symbol text) ([], run_stops m, among_at _ _ (sym (append-nil text)) o, text_end kind.Symbol text, refl) refl)
+      (λ o. tt))
 
   under_mark : c ≡ 95 → More (mode.Colon start) (mode.Under start)
   under_mark u k n rest (v, d, e) = (v, subst (λ c. IsSymbol v (length (encode_utf8 c) + n) (c ∷ cs) rest) (sym u) (symbol_at (1 + n) _ d (omega (arith, one_byte 95 refl))), e)
@@ -289,16 +295,16 @@ module _ (tokens : List Token) (start at c : ℕ) (cs : List ℕ) where
       (if starts_word c then Some (lexer tokens (mode.SymbolWord start (encode_utf8 c))) else if is_mark c then Some (lexer tokens (mode.SymbolOperator start (encode_utf8 c))) else None)
       (λ u us f. on (mode.Colon start) (mode.Under start) us f (under_mark (eqb-true c 95 u)))
       (λ u. choose (Behind (mode.Colon start)) (starts_word c) (Some (lexer tokens (mode.SymbolWord start (encode_utf8 c)))) (if is_mark c then Some (lexer tokens (mode.SymbolOperator start (encode_utf8 c))) else None)
-        (λ s us f. on (mode.Colon start) (mode.SymbolWord start (encode_utf8 c)) us f (λ k n rest (v, b, e). (c ∷ v, symbol_of n c s (λ w rest r. not_interface c w u) b, e)))
-        (λ s. choose (Behind (mode.Colon start)) (is_mark c) (Some (lexer tokens (mode.SymbolOperator start (encode_utf8 c)))) None
-          (λ m us f. on (mode.Colon start) (mode.SymbolOperator start (encode_utf8 c)) us f (operator_mark m))
-          (λ m. tt)))
+      (λ s us f. on (mode.Colon start) (mode.SymbolWord start (encode_utf8 c)) us f (λ k n rest (v, b, e). (c ∷ v, symbol_of n c s (λ w rest r. not_interface c w u) b, e)))
+      (λ s. choose (Behind (mode.Colon start)) (is_mark c) (Some (lexer tokens (mode.SymbolOperator start (encode_utf8 c)))) None
+      (λ m us f. on (mode.Colon start) (mode.SymbolOperator start (encode_utf8 c)) us f (operator_mark m))
+      (λ m. tt)))
 
   pub under_back : Behind (mode.Under start) (in_under tokens start at c)
   under_back = choose (Behind (mode.Under start)) (is_ascii_uppercase c) None (in_symbol_word tokens start (encode_utf8 95) at c)
       (λ u. tt)
       (λ u. as_mode (mode.Under start) (mode.SymbolWord start (encode_utf8 95)) (in_symbol_word tokens start (encode_utf8 95) at c)
-        (λ k n rest (v, b, e). (95 ∷ v, symbol_at _ _ (symbol_of n 95 refl (λ w rest r. under_free c r u) b) (omega (arith, one_byte 95 refl)), e)) (symbol_word_back (encode_utf8 95)))
+      (λ k n rest (v, b, e). (95 ∷ v, symbol_at _ _ (symbol_of n 95 refl (λ w rest r. under_free c r u) b) (omega (arith, one_byte 95 refl)), e)) (symbol_word_back (encode_utf8 95)))
 
   -- Comments.
   pub comment_back : Back (λ ts. From mode.Comment at ts (c ∷ cs)) tokens at c cs (in_comment tokens at c)
@@ -312,9 +318,14 @@ module _ (tokens : List Token) (start at c : ℕ) (cs : List ℕ) where
   noted_append false us = refl
 
   note_ended : (text : List ℕ) (ts us : List Token) → (c == 10) ≡ true → ts ≡ (if is_type_note text then made kind.TypeNote start at ∷ us else us) → Divides in_line at us (c ∷ cs) → From (mode.Note start text) at ts (c ∷ cs)
-  note_ended text ts us e i d =
-      ([], c ∷ cs, us, run_stops (no_line c e), subst (λ n. Divides in_line n us (c ∷ cs)) (sym (add-zero at)) d,
-        i ∙ ap (λ n. if is_type_note text then made kind.TypeNote start n ∷ us else us) (sym (add-zero at)) ∙ ap (λ t. if is_type_note t then made kind.TypeNote start (at + 0) ∷ us else us) (sym (append-nil text)))
+  note_ended text ts us e i d = (
+    [],
+    c ∷ cs,
+    us,
+    run_stops (no_line c e),
+    subst (λ n. Divides in_line n us (c ∷ cs)) (sym (add-zero at)) d,
+    i ∙ ap (λ n. if is_type_note text then made kind.TypeNote start n ∷ us else us) (sym (add-zero at)) ∙ ap (λ t. if is_type_note t then made kind.TypeNote start (at + 0) ∷ us else us) (sym (append-nil text)),
+  )
 
   note_begun : (text : List ℕ) (o : Option Lexer) → (c == 10) ≡ true → Back (λ ts. Divides in_line at ts (c ∷ cs)) (noted tokens start text at) at c cs o → Back (λ ts. From (mode.Note start text) at ts (c ∷ cs)) tokens at c cs o
   note_begun text None e b = tt
@@ -327,7 +338,16 @@ module _ (tokens : List Token) (start at c : ℕ) (cs : List ℕ) where
   note_back text = choose (Back (λ ts. From (mode.Note start text) at ts (c ∷ cs)) tokens at c cs) (c == 10) (begin (noted tokens start text at) false at c) (Some (lexer tokens (mode.Note start (text ++ c ∷ []))))
       (λ e. note_begun text (begin (noted tokens start text at) false at c) e (begin_back (noted tokens start text at) false at c cs))
       (λ e ts (w, rest, us, r, d, i).
-        let same : (at + length (encode_utf8 c)) + width w ≡ at + width (c ∷ w) = omega (arith, width_more c w) in
-        (ts, refl, (c ∷ w, rest, us, run_goes (in_line_char c e) r, subst (λ n. Divides in_line n us rest) same d,
+      let same : (at + length (encode_utf8 c)) + width w ≡ at + width (c ∷ w) = omega (arith, width_more c w) in (
+        ts,
+        refl,
+        (
+          c ∷ w,
+          rest,
+          us,
+          run_goes (in_line_char c e) r,
+          subst (λ n. Divides in_line n us rest) same d,
           i ∙ ap (λ n. if is_type_note ((text ++ c ∷ []) ++ w) then made kind.TypeNote start n ∷ us else us) same
-          ∙ ap (λ t. if is_type_note t then made kind.TypeNote start (at + width (c ∷ w)) ∷ us else us) (append_assoc text (c ∷ []) w))))
+              ∙ ap (λ t. if is_type_note t then made kind.TypeNote start (at + width (c ∷ w)) ∷ us else us) (append_assoc text (c ∷ []) w),
+        ),
+      ))

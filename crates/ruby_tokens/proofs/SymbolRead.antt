@@ -48,9 +48,9 @@ module _ (tokens : List Token) (start : ℕ) where
       → reads (lexer tokens (mode.Colon start)) at (c ∷ cs) ≡ reads (lexer tokens (mode.SymbolWord start (encode_utf8 c))) (at + length (encode_utf8 c)) cs
   first_read {w = w} {cs = cs} at c s r h = bool_cases (c == 95)
       (λ e. let is : c ≡ 95 = eqb-true c 95 e in
-        subst (λ d. reads (lexer tokens (mode.Colon start)) at (d ∷ cs) ≡ reads (lexer tokens (mode.SymbolWord start (encode_utf8 d))) (at + length (encode_utf8 d)) cs) (sym is)
-        (goes (lexer tokens (mode.Colon start)) (lexer tokens (mode.Under start)) at 95 cs refl
-        ∙ under_read (at + length (encode_utf8 95)) r (subst (λ d. NotInterface d w) is h)))
+      subst (λ d. reads (lexer tokens (mode.Colon start)) at (d ∷ cs) ≡ reads (lexer tokens (mode.SymbolWord start (encode_utf8 d))) (at + length (encode_utf8 d)) cs) (sym is)
+      (goes (lexer tokens (mode.Colon start)) (lexer tokens (mode.Under start)) at 95 cs refl
+      ∙ under_read (at + length (encode_utf8 95)) r (subst (λ d. NotInterface d w) is h)))
       (λ e. goes (lexer tokens (mode.Colon start)) (lexer tokens (mode.SymbolWord start (encode_utf8 c))) at c cs (colon_step at c s e))
 
   body_read : {w cs rest : List ℕ} (text t : List ℕ) (at n : ℕ) → Run is_name_character w cs rest → t ≡ text ++ encode_utf8_all w → n ≡ at + width w

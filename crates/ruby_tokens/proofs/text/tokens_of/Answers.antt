@@ -14,7 +14,7 @@ step-requires-clause-fits c = omega (arith, room c.args.characters.now c.loop-c.
 pub returns-in_err-lexer : goal.returns-in_err-lexer
 returns-in_err-lexer c =
     let none : step c.loop-c.lexer.tokens c.loop-c.lexer.mode c.loop-c.at c.c-item.result ≡ _ → reads first 0 c.args.characters.now ≡ _ =
-        run_none c.args.characters.now c.loop-c.c-index c.c-item.result c.loop-c.at c.loop-c.lexer (reads first 0 c.args.characters.now) c.loop-c-test.true c.c-item.is c.loop-c.invariant.run in
+    run_none c.args.characters.now c.loop-c.c-index c.c-item.result c.loop-c.at c.loop-c.lexer (reads first 0 c.args.characters.now) c.loop-c-test.true c.c-item.is c.loop-c.invariant.run in
     let h = refuse (step c.loop-c.lexer.tokens c.loop-c.lexer.mode c.loop-c.at c.c-item.result) (reads first 0 c.args.characters.now) c.in_err-lexer.field-0.0 none c.in_err-lexer.ensures in
     search (rules, h)
 
