@@ -1,0 +1,121 @@
+ghost use Rattle.std.specs.Prelude.{◌<◌, ◌^◌, length};
+
+use crate::{Kind, tokens};
+use std::alloc::Global;
+use std::test::Fail;
+
+/// The tokens of a text with their places, or `None`.
+fn shown(alloc: Global, text: &[u8]) -> Result<Option<String>, Fail>
+    requires { length text.now < 2 ^ 32 }
+{
+    let Some(tokens) = tokens(alloc, text)? else {
+        return Ok(None);
+    };
+    let mut shown = String::new(alloc);
+    for token in tokens.as_slice() {
+        let kind = match &token.kind {
+            Kind::Class => format!(in alloc; "class")?,
+            Kind::Def => format!(in alloc; "def")?,
+            Kind::End => format!(in alloc; "end")?,
+            Kind::Nil => format!(in alloc; "nil")?,
+            Kind::Upper(word) => format!(in alloc; "upper {}", word.as_str())?,
+            Kind::Name(word) => format!(in alloc; "name {}", word.as_str())?,
+            Kind::Other => format!(in alloc; "other")?,
+            Kind::Integer(value) => format!(in alloc; "{}", *value)?,
+            Kind::Text(word) => format!(in alloc; "text {}", word.as_str())?,
+            Kind::Symbol(word) => format!(in alloc; "symbol {}", word.as_str())?,
+            Kind::Open => format!(in alloc; "(")?,
+            Kind::Close => format!(in alloc; ")")?,
+            Kind::Semicolon => format!(in alloc; ";")?,
+            Kind::Newline => format!(in alloc; "newline")?,
+            Kind::TypeNote => format!(in alloc; "note")?,
+        };
+        let place = format!(in alloc; "{} {}-{}, ", kind.as_str(), token.start, token.end)?;
+        shown.push_str(place.as_str())?;
+    }
+    Ok(Some(shown))
+}
+
+#[test]
+fn each_kind(rt: HostRuntime) -> Result<(), Fail> {
+    let alloc = rt.alloc();
+    let text =
+        "class A # @type var x: T\n\t# @type var x: T\n# @type x\ndef f(x)\n nil; if\n'a' \"\u{e9}\\n\" :ok -12\nend";
+    let expected =
+        "class 0-5, upper A 6-7, newline 24-25, note 26-42, newline 42-43, newline 52-53, def 53-56, name f 57-58, ( 58-59, name x 59-60, ) 60-61, newline 61-62, nil 63-66, ; 66-67, other 68-70, newline 70-71, text a 71-74, text \u{e9}\n 75-81, symbol ok 82-85, -12 86-89, newline 89-90, end 90-93, ";
+    assert_eq!(rt;
+        shown(alloc, text.as_bytes())?.ok_or("none")?.as_str(),
+        expected
+    );
+    Ok(())
+}
+
+#[test]
+fn refused(rt: HostRuntime) -> Result<(), Fail> {
+    let alloc = rt.alloc();
+    let texts: [&str; 20] = [
+        r#""\q""#,
+        "\"#{x}\"",
+        "\"##{x}\"",
+        "'a",
+        "\"a",
+        "00",
+        "0x1",
+        "1_",
+        "1__0",
+        "_1 1_a",
+        "9223372036854775808",
+        "-9223372036854775809",
+        "- 1",
+        "$x",
+        "`",
+        ":\"a\"",
+        ":_Foo",
+        ":a==1",
+        ":",
+        "a + b",
+    ];
+    for text in texts {
+        if text.len() < 100 {
+            assert!(rt; tokens(alloc, text.as_bytes())?.is_none(), "{text}");
+        }
+    }
+    assert!(rt; tokens(alloc, b"a \xff")?.is_none());
+    Ok(())
+}
+
+#[test]
+fn found(rt: HostRuntime) -> Result<(), Fail> {
+    let alloc = rt.alloc();
+    let texts: [(&str, &str); 20] = [
+        ("9223372036854775807", "9223372036854775807 0-19, "),
+        ("-9223372036854775808", "-9223372036854775808 0-20, "),
+        ("9_0", "90 0-3, "),
+        ("-0", "0 0-2, "),
+        ("\"#@a\"", "text #@a 0-5, "),
+        ("\"\\t\\\"\\\\\\#{\"", "text \t\"\\#{ 0-11, "),
+        (r"'\q\'\\'", "text \\q'\\ 0-8, "),
+        (":a=", "symbol a= 0-3, "),
+        (":[]=", "symbol []= 0-4, "),
+        (":<=>", "symbol <=> 0-4, "),
+        (":end", "symbol end 0-4, "),
+        (":a?", "symbol a? 0-3, "),
+        (":_", "symbol _ 0-2, "),
+        (":_a", "symbol _a 0-3, "),
+        ("1end", "1 0-1, end 1-4, "),
+        ("0y", "0 0-1, name y 1-2, "),
+        ("a # b", "name a 0-1, "),
+        ("'a\n\u{e9}'", "text a\n\u{e9} 0-6, "),
+        ("a\u{e9}b", "name a\u{e9}b 0-4, "),
+        ("", ""),
+    ];
+    for (text, expected) in texts {
+        if text.len() < 100 {
+            assert_eq!(rt;
+                shown(alloc, text.as_bytes())?.ok_or("none")?.as_str(),
+                expected
+            );
+        }
+    }
+    Ok(())
+}
