@@ -7,7 +7,10 @@ mod file;
 mod method;
 mod progress;
 mod named;
+#[cfg(test)]
+mod tests;
+mod text;
 mod tree;
 
-pub use file::openings_of;
+pub use text::read;
 pub use tree::{Definition, Literal, Opening};
