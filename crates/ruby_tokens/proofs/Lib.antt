@@ -1,0 +1,15 @@
+pub mod Characters
+pub mod Runs
+pub mod WordRead
+pub mod TextRead
+pub mod NumberRead
+pub mod SymbolRead
+pub mod NoteRead
+pub mod Complete
+pub mod From
+pub mod Sorts
+pub mod Begins
+pub mod Loop
+pub mod Steps
+pub mod Sound
+pub mod Exact

@@ -1,3 +1,9 @@
 pub mod Words
 pub mod Literals
 pub mod Tokens
+pub mod Starts
+pub mod Notes
+pub mod Machine
+pub mod Does
+pub mod Reads
+pub mod Answers

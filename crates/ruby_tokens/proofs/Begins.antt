@@ -1,0 +1,122 @@
+-- The lexer's step where a token may begin, read backwards.
+use Rattle.std.proofs.Common.{ℕ, ◌≡◌, ◌≢◌, ◌+◌, ◌-◌, ◌≤◌, ◌<◌, ◌^◌, Bool, true, false, refl, sym, ◌∙◌, ap, subst, List, [], ◌∷◌, ◌++◌, length, append_assoc, Option, Some, None, arith, zero, suc}
+use Rattle.std.specs.Prelude.{encode_utf8_all, if◌then◌else◌, pos}
+use Rattle.std.specs.Char.{encode_utf8, is_ascii_digit}
+use Rattle.source_text.specs.Characters.{width, Run, is_name_character, is_blank, starts_word}
+use Rattle.ruby_tokens.specs.declared.token.Token.{Token}
+use Rattle.ruby_tokens.specs.declared.token.Kind.{Kind}
+use Rattle.ruby_tokens.specs.declared.token.Kind.TheVariants as kind
+use Rattle.ruby_tokens.specs.declared.mode.Mode.{Mode}
+use Rattle.ruby_tokens.specs.declared.mode.Mode.TheVariants as mode
+use Rattle.ruby_tokens.specs.declared.mode.Lexer.{Lexer}
+use Rattle.ruby_tokens.specs.declared.starts.Sort.{Sort}
+use Rattle.ruby_tokens.specs.declared.starts.Sort.TheVariants as sort
+use Rattle.ruby_tokens.specs.Starts.{sort_of}
+use Rattle.ruby_tokens.specs.Words.{word_kind}
+use Rattle.ruby_tokens.specs.Literals.{Magnitude, zero_alone, nonzero, Digits, EndsZero, IsInteger, plus, minus, negative, Single, Double, IsSymbol}
+use Rattle.ruby_tokens.specs.Tokens.{Lexes, lex_word, lex_integer, lex_single, lex_double, lex_symbol, lex_open, lex_close, lex_semicolon, lex_newline, is_in_line, IsTypeNote, Before, blank_line, in_line, after, Divides, gap, note, comment, token}
+use Rattle.ruby_tokens.specs.Notes.{is_type_note}
+use Rattle.ruby_tokens.specs.Machine.{lexer, with_token, begin_by, begin, limit}
+use Rattle.ruby_tokens.proofs.Characters.{one_byte, sort_blank, digit_ascii, width_more, word_ascii, digit_small}
+use Rattle.ruby_tokens.proofs.From.{made, Completes, FromToken, From, Back, begins, choose}
+use Rattle.ruby_tokens.proofs.Sorts.{Tells, tells}
+use Rattle.ruby_tokens.proofs.NoteRead.{find_note, note_is}
+
+abbrev pub before_of : Bool → Before
+before_of true = blank_line
+before_of false = in_line
+
+lexes_at : {k : Kind} {cs rest : List ℕ} (n m : ℕ) → Lexes k n cs rest → n ≡ m → Lexes k m cs rest
+lexes_at {k = k} {cs = cs} {rest = rest} n m l e = subst (λ n. Lexes k n cs rest) e l
+
+begins_word : (c : ℕ) (cs : List ℕ) (at : ℕ) → starts_word c ≡ true → (k : Kind) (n : ℕ) (rest : List ℕ) → Completes (mode.Word at (encode_utf8 c)) k n cs rest → Lexes k (length (encode_utf8 c) + n) (c ∷ cs) rest
+begins_word c cs at s k n rest (w, r, e, f) =
+    subst (λ k. Lexes k (length (encode_utf8 c) + n) (c ∷ cs) rest) (sym e) (lexes_at _ _ (lex_word s r) (width_more c w ∙ ap (λ n. length (encode_utf8 c) + n) (sym f)))
+
+begins_zero : (cs : List ℕ) (at : ℕ) (k : Kind) (n : ℕ) (rest : List ℕ) → Completes (mode.Zero at) k n cs rest → Lexes k (length (encode_utf8 48) + n) (48 ∷ cs) rest
+begins_zero cs at k n rest (r, h, e, f) =
+    subst (λ k. Lexes k (length (encode_utf8 48) + n) (48 ∷ cs) rest) (sym e)
+      (subst (λ rest. Lexes (kind.Integer (pos 0)) (length (encode_utf8 48) + n) (48 ∷ cs) rest) r
+        (lexes_at 1 _ (lex_integer (plus (omega arith) (zero_alone h))) (omega (arith, one_byte 48 refl, f))))
+
+begins_digit : (c : ℕ) (cs : List ℕ) (at : ℕ) → is_ascii_digit c ≡ true → c ≢ 48 → (k : Kind) (n : ℕ) (rest : List ℕ) → Completes (mode.Digits at false (c - 48)) k n cs rest → Lexes k (length (encode_utf8 c) + n) (c ∷ cs) rest
+begins_digit c cs at d z k n rest (v, ds, l, e) =
+    let small : v ≤ limit false = l (digit_small c d) in
+    subst (λ k. Lexes k (length (encode_utf8 c) + n) (c ∷ cs) rest) (sym e)
+      (lexes_at (n + 1) _ (lex_integer (plus (omega arith) (nonzero d z ds))) (omega (arith, one_byte c (digit_ascii c d))))
+
+begins_minus : (cs : List ℕ) (at : ℕ) (k : Kind) (n : ℕ) (rest : List ℕ) → Completes (mode.Minus at) k n cs rest → Lexes k (length (encode_utf8 45) + n) (45 ∷ cs) rest
+begins_minus cs at k n rest (v, m, l, e) =
+    subst (λ k. Lexes k (length (encode_utf8 45) + n) (45 ∷ cs) rest) (sym e) (lexes_at (n + 1) _ (lex_integer (minus l m)) (omega (arith, one_byte 45 refl)))
+
+begins_single : (cs : List ℕ) (at : ℕ) (k : Kind) (n : ℕ) (rest : List ℕ) → Completes (mode.Single at []) k n cs rest → Lexes k (length (encode_utf8 39) + n) (39 ∷ cs) rest
+begins_single cs at k n rest (v, d, e) =
+    subst (λ k. Lexes k (length (encode_utf8 39) + n) (39 ∷ cs) rest) (sym e) (lexes_at (n + 1) _ (lex_single d) (omega (arith, one_byte 39 refl)))
+
+begins_double : (cs : List ℕ) (at : ℕ) (k : Kind) (n : ℕ) (rest : List ℕ) → Completes (mode.Double at []) k n cs rest → Lexes k (length (encode_utf8 34) + n) (34 ∷ cs) rest
+begins_double cs at k n rest (v, d, e) =
+    subst (λ k. Lexes k (length (encode_utf8 34) + n) (34 ∷ cs) rest) (sym e) (lexes_at (n + 1) _ (lex_double d) (omega (arith, one_byte 34 refl)))
+
+begins_symbol : (cs : List ℕ) (at : ℕ) (k : Kind) (n : ℕ) (rest : List ℕ) → Completes (mode.Colon at) k n cs rest → Lexes k (length (encode_utf8 58) + n) (58 ∷ cs) rest
+begins_symbol cs at k n rest (v, d, e) =
+    subst (λ k. Lexes k (length (encode_utf8 58) + n) (58 ∷ cs) rest) (sym e) (lexes_at (n + 1) _ (lex_symbol d) (omega (arith, one_byte 58 refl)))
+
+-- a comment on a line of its own
+elim_before : in_line ≡ blank_line → ⊥
+elim_before e = cc
+
+note_line : {text cs rest : List ℕ} {us : List Token} (at m : ℕ) → Run is_in_line text cs rest → m ≡ at + 1 + width text → Divides in_line m us rest → is_type_note text ≡ true
+    → Divides blank_line at (made kind.TypeNote at m ∷ us) (35 ∷ cs)
+note_line {text = text} {cs = cs} {rest = rest} {us = us} at m r e d t =
+    subst (λ m. Divides blank_line at (made kind.TypeNote at m ∷ us) (35 ∷ cs)) (sym e) (note r (find_note text t) (subst (λ m. Divides in_line m us rest) e d))
+
+plain_line : {text cs rest : List ℕ} {us : List Token} (at m : ℕ) → Run is_in_line text cs rest → m ≡ at + 1 + width text → Divides in_line m us rest → is_type_note text ≡ false
+    → Divides blank_line at us (35 ∷ cs)
+plain_line {text = text} {rest = rest} {us = us} at m r e d f = comment r (λ b n. let t : is_type_note text ≡ true = note_is n in cc) (subst (λ m. Divides in_line m us rest) e d)
+
+either_line : {text cs rest : List ℕ} {us : List Token} (ts : List Token) (at m : ℕ) → Run is_in_line text cs rest → m ≡ at + 1 + width text → Divides in_line m us rest
+    → ts ≡ (if is_type_note text then made kind.TypeNote at m ∷ us else us) → Divides blank_line at ts (35 ∷ cs)
+either_line {text = text} {cs = cs} {us = us} ts at m r e d =
+    choose (λ x. ts ≡ x → Divides blank_line at ts (35 ∷ cs)) (is_type_note text) (made kind.TypeNote at m ∷ us) us
+      (λ t i. subst (λ ts. Divides blank_line at ts (35 ∷ cs)) (sym i) (note_line at m r e d t))
+      (λ f i. subst (λ ts. Divides blank_line at ts (35 ∷ cs)) (sym i) (plain_line at m r e d f))
+
+module _ (tokens : List Token) (at : ℕ) (cs : List ℕ) where
+  -- what a character of a sort leads to, read backwards
+  abbrev BySort : Bool → Sort → ℕ → Type 0
+  BySort blank s c = Back (λ ts. Divides (before_of blank) at ts (c ∷ cs)) tokens at c cs (begin_by s tokens blank at c)
+
+  -- a token of one character
+  one : (b : Before) (k : Kind) (c : ℕ) {us : List Token} → length (encode_utf8 c) ≡ 1 → Lexes k 1 (c ∷ cs) cs → Divides (after k) (at + length (encode_utf8 c)) us cs
+      → (ts : List Token) × (with_token tokens k at (at + 1) ++ us ≡ tokens ++ ts) × Divides b at ts (c ∷ cs)
+  one b k c {us = us} o l d = (made k at (at + 1) ∷ us, append_assoc tokens (made k at (at + 1) ∷ []) us, token l (subst (λ n. Divides (after k) (at + n) us cs) o d))
+
+  comment_back : (blank : Bool) → BySort blank sort.Comment 35
+  comment_back true = λ ts (w, rest, us, r, d, e). (ts, refl, either_line ts at ((at + length (encode_utf8 35)) + width w) r (omega (arith, one_byte 35 refl)) d e)
+  comment_back false = λ ts (w, rest, r, d).
+      let same : (at + length (encode_utf8 35)) + width w ≡ at + 1 + width w = omega (arith, one_byte 35 refl) in
+      (ts, refl, comment r (λ e. absurd (elim_before e)) (subst (λ n. Divides in_line n ts rest) same d))
+
+  blank_back : (blank : Bool) (c : ℕ) → is_blank c ≡ true → BySort blank sort.Blank c
+  blank_back true c e = λ us d. (us, refl, gap e (subst (λ n. Divides blank_line (at + n) us cs) (one_byte c (sort_blank c e).1) d))
+  blank_back false c e = λ us d. (us, refl, gap e (subst (λ n. Divides in_line (at + n) us cs) (one_byte c (sort_blank c e).1) d))
+
+  by_sort : (blank : Bool) (c : ℕ) (s : Sort) → Tells c s → BySort blank s c
+  by_sort blank c sort.Nothing t = tt
+  by_sort blank c sort.Blank t = blank_back blank c t
+  by_sort blank c sort.Word t = λ us f. (us, refl, begins (before_of blank) (mode.Word at (encode_utf8 c)) c (begins_word c cs at t) f)
+  by_sort blank c sort.Digit t = λ us f. (us, refl, begins (before_of blank) (mode.Digits at false (c - 48)) c (begins_digit c cs at t.0 t.1) f)
+  by_sort blank c sort.Comment t = subst (BySort blank sort.Comment) (sym t) (comment_back blank)
+  by_sort blank c sort.Zero t = subst (BySort blank sort.Zero) (sym t) (λ us f. (us, refl, begins (before_of blank) (mode.Zero at) 48 (begins_zero cs at) f))
+  by_sort blank c sort.Minus t = subst (BySort blank sort.Minus) (sym t) (λ us f. (us, refl, begins (before_of blank) (mode.Minus at) 45 (begins_minus cs at) f))
+  by_sort blank c sort.Single t = subst (BySort blank sort.Single) (sym t) (λ us f. (us, refl, begins (before_of blank) (mode.Single at []) 39 (begins_single cs at) f))
+  by_sort blank c sort.Double t = subst (BySort blank sort.Double) (sym t) (λ us f. (us, refl, begins (before_of blank) (mode.Double at []) 34 (begins_double cs at) f))
+  by_sort blank c sort.Symbol t = subst (BySort blank sort.Symbol) (sym t) (λ us f. (us, refl, begins (before_of blank) (mode.Colon at) 58 (begins_symbol cs at) f))
+  by_sort blank c sort.Open t = subst (BySort blank sort.Open) (sym t) (λ us d. one (before_of blank) kind.Open 40 (one_byte 40 refl) lex_open d)
+  by_sort blank c sort.Close t = subst (BySort blank sort.Close) (sym t) (λ us d. one (before_of blank) kind.Close 41 (one_byte 41 refl) lex_close d)
+  by_sort blank c sort.Semicolon t = subst (BySort blank sort.Semicolon) (sym t) (λ us d. one (before_of blank) kind.Semicolon 59 (one_byte 59 refl) lex_semicolon d)
+  by_sort blank c sort.Newline t = subst (BySort blank sort.Newline) (sym t) (λ us d. one (before_of blank) kind.Newline 10 (one_byte 10 refl) lex_newline d)
+
+-- where a token may begin
+pub begin_back : (tokens : List Token) (blank : Bool) (at c : ℕ) (cs : List ℕ) → Back (λ ts. Divides (before_of blank) at ts (c ∷ cs)) tokens at c cs (begin tokens blank at c)
+begin_back tokens blank at c cs = by_sort tokens at cs blank c (sort_of c) (tells c)

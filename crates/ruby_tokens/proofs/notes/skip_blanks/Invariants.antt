@@ -1,0 +1,7 @@
+use Rattle.std.proofs.Common.{◌≡◌, drop}
+use Rattle.source_text.specs.Characters.{is_blank}
+use Rattle.ruby_tokens.specs.Notes.{skip}
+use Rattle.ruby_tokens.proofs.notes.skip_blanks.Given as goal
+
+abbrev pub invariant-loop-place : goal.invariant-loop-place
+invariant-loop-place l = skip is_blank (drop l.place l.text) ≡ skip is_blank l.text

@@ -1,0 +1,124 @@
+//! The words of Ruby text.
+
+ghost use Rattle.std.specs.Prelude.{◌≡◌, ◌+◌, ◌^◌, ◌<◌};
+ghost use Rattle.names.specs.Places.{is_among};
+ghost use Rattle.ruby_tokens.specs.Machine as machine;
+ghost use Rattle.ruby_tokens.specs.Does.{Does};
+ghost use Rattle.ruby_tokens.specs.Words.{keywords, begins_upper, word_kind};
+
+use crate::begin::behind;
+use crate::listed::is_listed;
+use crate::mode::{Lexer, Mode};
+use crate::put::with_character;
+use crate::refused::Refused;
+use crate::token::{Kind, Token};
+use plain_data::{Many, Word};
+use source_text::is_name_character;
+use std::alloc::Global;
+
+/// Whether the word is no name, beside `class`, `def`, `end` and `nil`.
+fn is_keyword(word: &str) -> bool
+    ensures { result ≡ is_among word.now keywords }
+{
+    is_listed(
+        word,
+        &[
+            "module",
+            "alias",
+            "if",
+            "unless",
+            "elsif",
+            "else",
+            "then",
+            "while",
+            "do",
+            "return",
+            "break",
+            "next",
+            "yield",
+            "super",
+            "self",
+            "true",
+            "false",
+            "private",
+            "public",
+            "include",
+            "extend",
+            "prepend",
+            "attr_reader",
+            "attr_writer",
+            "attr_accessor",
+            "case",
+            "for",
+            "until",
+            "begin",
+            "rescue",
+            "ensure",
+            "retry",
+            "redo",
+            "undef",
+            "and",
+            "or",
+            "not",
+            "BEGIN",
+            "END",
+            "__FILE__",
+            "__LINE__",
+            "__method__",
+            "__END__",
+        ],
+    )
+}
+
+fn begins_upper(word: &str) -> bool
+    ensures { result ≡ begins_upper word.now }
+{
+    match word.as_bytes() {
+        [first, ..] => first.is_ascii_uppercase(),
+        [] => false,
+    }
+}
+
+/// What a word is, by its letters.
+pub fn word_kind(word: Word) -> Kind
+    ensures { result ≡ word_kind word }
+{
+    let text = word.as_str();
+    if text == "class" {
+        Kind::Class
+    } else if text == "def" {
+        Kind::Def
+    } else if text == "end" {
+        Kind::End
+    } else if text == "nil" {
+        Kind::Nil
+    } else if is_keyword(text) {
+        Kind::Other
+    } else if begins_upper(text) {
+        Kind::Upper(word)
+    } else {
+        Kind::Name(word)
+    }
+}
+
+/// In a word.
+pub fn in_word(
+    alloc: Global,
+    tokens: Many<Token>,
+    start: u32,
+    text: Word,
+    at: u32,
+    c: char,
+) -> Result<Lexer, Refused>
+    requires { at + 1 < 2 ^ 32 }
+    ensures { Does (machine.in_word tokens start text at c) result }
+{
+    if is_name_character(c) {
+        let text = with_character(text, c)?;
+        return Ok(Lexer {
+            tokens,
+            mode: Mode::Word { start, text },
+        });
+    }
+    behind(alloc, tokens, word_kind(text), start, at, c)
+}
