@@ -105,7 +105,10 @@ impl FileReader {
 }
 
 /// The classes that all of the tokens open, or none where they are no text of the profile.
-pub fn openings_of(alloc: Global, tokens: &[Token]) -> Result<Option<Many<Opening>>, NoMemory>
+pub(crate) fn openings_of(
+    alloc: Global,
+    tokens: &[Token],
+) -> Result<Option<Many<Opening>>, NoMemory>
     ensures { IfOk result (Opened tokens.now) }
 {
     let mut reader = FileReader::new(alloc);

@@ -6,7 +6,10 @@ mod class;
 mod file;
 mod method;
 mod progress;
+#[cfg(test)]
+mod tests;
+mod text;
 mod tree;
 
-pub use file::openings_of;
+pub use text::read;
 pub use tree::{Definition, Literal, Opening};
