@@ -5,8 +5,8 @@ mod body;
 mod class;
 mod file;
 mod method;
-mod progress;
 mod named;
+mod progress;
 #[cfg(test)]
 mod tests;
 mod text;

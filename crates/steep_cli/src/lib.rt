@@ -8,6 +8,8 @@ mod load;
 pub mod outcome;
 mod plan;
 pub mod status;
+#[cfg(test)]
+mod tests;
 
 pub use call::tool;
 pub use in_memory::tool_in_memory;

@@ -1,0 +1,82 @@
+use crate::{Status, tool};
+use plain_data::{Many, NoMemory, Word};
+use run_base::{MemFiles, MemSink, NamedBytes, OpenGate};
+use std::alloc::Global;
+use std::test::Fail;
+
+const SIGNATURE: &[u8] = b"class A\n  def f: () -> Integer\nend\n";
+const MISFIT: &[u8] = b"class A\n  def f\n    \"a\"\n  end\nend\n";
+const LIST: &[u8] = b"b.rb:2:3: [Ruby::MethodBodyTypeMismatch] ::String does not fit ::Integer\nchecked 2 files: 1 diagnostics\n";
+
+fn check_words(alloc: Global) -> Result<Many<Word>, NoMemory> {
+    let mut words = Many::new(alloc);
+    words.push(Word::of(alloc, "steep")?)?;
+    words.push(Word::of(alloc, "check")?)?;
+    words.push(Word::of(alloc, "a.rbs")?)?;
+    words.push(Word::of(alloc, "b.rb")?)?;
+    Ok(words)
+}
+
+fn two_files(alloc: Global, ruby: &[u8]) -> Result<Many<NamedBytes>, NoMemory> {
+    let mut files = Many::new(alloc);
+    files.push(NamedBytes {
+        name: Word::of(alloc, "a.rbs")?,
+        bytes: Many::from_slice(alloc, SIGNATURE)?,
+    })?;
+    files.push(NamedBytes {
+        name: Word::of(alloc, "b.rb")?,
+        bytes: Many::from_slice(alloc, ruby)?,
+    })?;
+    Ok(files)
+}
+
+#[test]
+fn a_body_that_does_not_fit_is_listed(rt: HostRuntime) -> Result<(), Fail> {
+    let alloc = rt.alloc();
+    let mut files = MemFiles::new(two_files(alloc, MISFIT)?, Many::new(alloc));
+    let mut out = MemSink::new(alloc, 1000, Many::new(alloc), 1000)?;
+    let mut err = MemSink::new(alloc, 1000, Many::new(alloc), 1000)?;
+    let words = check_words(alloc)?;
+    let status = tool(&rt, alloc, &words, &mut files, &mut out, &mut err, &OpenGate)?;
+    assert_eq!(rt; status, Status::Listed);
+    assert_eq!(rt; out.bytes(), LIST);
+    assert_eq!(rt; err.bytes(), b"".as_slice());
+    Ok(())
+}
+
+#[test]
+fn each_failing_read_is_answered(rt: HostRuntime) -> Result<(), Fail> {
+    let alloc = rt.alloc();
+    for call in 1..7u64 {
+        let fails = Many::from_slice(alloc, &[call])?;
+        let mut files = MemFiles::new(two_files(alloc, MISFIT)?, fails);
+        let mut out = MemSink::new(alloc, 1000, Many::new(alloc), 1000)?;
+        let mut err = MemSink::new(alloc, 1000, Many::new(alloc), 1000)?;
+        let words = check_words(alloc)?;
+        let status = tool(&rt, alloc, &words, &mut files, &mut out, &mut err, &OpenGate)?;
+        assert_eq!(rt; status, Status::ReadFault);
+        assert_eq!(rt; out.bytes(), b"".as_slice());
+        assert_eq!(rt; err.bytes(), b"read fault\n".as_slice());
+    }
+    Ok(())
+}
+
+#[test]
+fn a_failing_write_leaves_a_front(rt: HostRuntime) -> Result<(), Fail> {
+    let alloc = rt.alloc();
+    let mut files = MemFiles::new(two_files(alloc, MISFIT)?, Many::new(alloc));
+    let mut out = MemSink::new(alloc, 1000, Many::from_slice(alloc, &[2])?, 7)?;
+    let mut err = MemSink::new(alloc, 1000, Many::new(alloc), 1000)?;
+    let words = check_words(alloc)?;
+    let status = tool(&rt, alloc, &words, &mut files, &mut out, &mut err, &OpenGate)?;
+    assert_eq!(rt; status, Status::WriteFault);
+    assert_eq!(rt; out.bytes(), b"b.rb:2:".as_slice());
+    Ok(())
+}
+
+#[test]
+fn the_codes_of_the_statuses(rt: HostRuntime) -> Result<(), Fail> {
+    assert_eq!(rt; Status::Done.code(), 0);
+    assert_eq!(rt; Status::GoesOn.code(), 6);
+    Ok(())
+}
