@@ -6,7 +6,7 @@ use Rattle.sig_model.specs.declared.decl.Notes.{Notes}
 use Rattle.sig_model.specs.PlainTy as ty
 use Rattle.sig_model.specs.PlainTy.{PlainTy, PlainTys, PlainArgs, PlainFun, no_tys, more_tys, no_args, more_args, no_rest, no_keys, no_block}
 use Rattle.sig_model.specs.PlainMember.{PlainMember, method}
-use Rattle.sig_model.specs.PlainDecl.{PlainDecl, PlainParts, decl, class, member, no_parts}
+use Rattle.sig_model.specs.PlainDecl.{PlainDecl, PlainParts, decl, class}
 
 -- a name of one word, which isn't rooted
 abbrev pub bare_name : List ℕ → TypeName

@@ -1,5 +1,5 @@
 -- Types as plain data, and the plain twin of each type.
-use Rattle.std.specs.Prelude.{ℕ, ℤ, Bool, true, false, List, [], ◌∷◌, Option, None, Some}
+use Rattle.std.specs.Prelude.{ℕ, ℤ, Bool, List, [], ◌∷◌, Option, None, Some}
 use Rattle.sig_model.specs.declared.ty.TypeName.{TypeName}
 use Rattle.sig_model.specs.declared.ty.BaseTy.{BaseTy}
 use Rattle.sig_model.specs.declared.ty.BaseTy.TheVariants as a_base
