@@ -326,7 +326,7 @@ impl Parser {
         let Parser { decls, stage } = self;
         match stage {
             Stage::Outside => Some(decls),
-            _ => None,
+            Stage::Class { .. } | Stage::Inside { .. } => None,
         }
     }
 }
