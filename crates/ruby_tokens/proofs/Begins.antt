@@ -1,24 +1,21 @@
 -- The lexer's step where a token may begin, read backwards.
-use Rattle.std.proofs.Common.{ℕ, ◌≡◌, ◌≢◌, ◌+◌, ◌-◌, ◌≤◌, ◌<◌, ◌^◌, Bool, true, false, refl, sym, ◌∙◌, ap, subst, List, [], ◌∷◌, ◌++◌, length, append_assoc, Option, Some, None, arith, zero, suc}
-use Rattle.std.specs.Prelude.{encode_utf8_all, if◌then◌else◌, pos}
+use Rattle.std.proofs.Common.{ℕ, ◌≡◌, ◌≢◌, ◌+◌, ◌-◌, ◌≤◌, Bool, true, false, refl, sym, ◌∙◌, ap, subst, List, [], ◌∷◌, ◌++◌, length, append_assoc, arith}
+use Rattle.std.specs.Prelude.{if◌then◌else◌, pos}
 use Rattle.std.specs.Char.{encode_utf8, is_ascii_digit}
-use Rattle.source_text.specs.Characters.{width, Run, is_name_character, is_blank, starts_word}
+use Rattle.source_text.specs.Characters.{width, Run, is_blank, starts_word}
 use Rattle.ruby_tokens.specs.declared.token.Token.{Token}
 use Rattle.ruby_tokens.specs.declared.token.Kind.{Kind}
 use Rattle.ruby_tokens.specs.declared.token.Kind.TheVariants as kind
-use Rattle.ruby_tokens.specs.declared.mode.Mode.{Mode}
 use Rattle.ruby_tokens.specs.declared.mode.Mode.TheVariants as mode
-use Rattle.ruby_tokens.specs.declared.mode.Lexer.{Lexer}
 use Rattle.ruby_tokens.specs.declared.starts.Sort.{Sort}
 use Rattle.ruby_tokens.specs.declared.starts.Sort.TheVariants as sort
 use Rattle.ruby_tokens.specs.Starts.{sort_of}
-use Rattle.ruby_tokens.specs.Words.{word_kind}
-use Rattle.ruby_tokens.specs.Literals.{Magnitude, zero_alone, nonzero, Digits, EndsZero, IsInteger, plus, minus, negative, Single, Double, IsSymbol}
-use Rattle.ruby_tokens.specs.Tokens.{Lexes, lex_word, lex_integer, lex_single, lex_double, lex_symbol, lex_open, lex_close, lex_semicolon, lex_newline, is_in_line, IsTypeNote, Before, blank_line, in_line, after, Divides, gap, note, comment, token}
+use Rattle.ruby_tokens.specs.Literals.{zero_alone, nonzero, plus, minus}
+use Rattle.ruby_tokens.specs.Tokens.{Lexes, lex_word, lex_integer, lex_single, lex_double, lex_symbol, lex_open, lex_close, lex_semicolon, lex_newline, is_in_line, Before, blank_line, in_line, after, Divides, gap, note, comment, token}
 use Rattle.ruby_tokens.specs.Notes.{is_type_note}
-use Rattle.ruby_tokens.specs.Machine.{lexer, with_token, begin_by, begin, limit}
-use Rattle.ruby_tokens.proofs.Characters.{one_byte, sort_blank, digit_ascii, width_more, word_ascii, digit_small}
-use Rattle.ruby_tokens.proofs.From.{made, Completes, FromToken, From, Back, begins, choose}
+use Rattle.ruby_tokens.specs.Machine.{with_token, begin_by, begin, limit}
+use Rattle.ruby_tokens.proofs.Characters.{one_byte, sort_blank, digit_ascii, width_more, digit_small}
+use Rattle.ruby_tokens.proofs.From.{made, Completes, Back, begins, choose}
 use Rattle.ruby_tokens.proofs.Sorts.{Tells, tells}
 use Rattle.ruby_tokens.proofs.NoteRead.{find_note, note_is}
 

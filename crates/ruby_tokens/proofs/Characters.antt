@@ -1,15 +1,15 @@
 -- Facts about single characters and their widths.
-use Rattle.std.proofs.Common.{ℕ, ◌≡◌, ◌≢◌, ◌+◌, ◌-◌, ◌^◌, ◌<◌, ◌≤◌, Bool, true, false, refl, sym, ◌∙◌, ap, subst, List, [], ◌∷◌, ◌++◌, length, append_assoc, arith, eqb, ltb, ⊎_elim, inl, inr}
+use Rattle.std.proofs.Common.{ℕ, ◌≡◌, ◌≢◌, ◌+◌, ◌-◌, ◌^◌, ◌≤◌, Bool, true, false, refl, sym, ◌∙◌, ap, subst, List, [], ◌∷◌, ◌++◌, length, append_assoc, arith}
 use Rattle.std.specs.Prelude.{◌&&◌, ◌||◌, ◌==◌, not, nat_lt, codes, encode_utf8_all}
 use Rattle.std.proofs.lemmas.List.{append-nil, length-append}
 use Rattle.std.proofs.lemmas.Bool.{eqb-true}
 use Rattle.std.specs.Char.{is_ascii_digit, is_ascii_uppercase, encode_utf8}
-use Rattle.names.specs.Places.{is_among, same_name}
+use Rattle.names.specs.Places.{is_among}
 use Rattle.source_text.specs.Characters.{is_blank, is_name_character, starts_word, width}
 use Rattle.ruby_tokens.specs.declared.starts.Sort.{Sort}
 use Rattle.ruby_tokens.specs.declared.starts.Sort.TheVariants as sort
 use Rattle.ruby_tokens.specs.Starts.{sort_of}
-use Rattle.ruby_tokens.specs.Literals.{is_mark, is_ending, is_single_plain, is_double_plain}
+use Rattle.ruby_tokens.specs.Literals.{is_mark, is_ending}
 
 pub ascii : (c : ℕ) → nat_lt c 128 ≡ true → encode_utf8 c ≡ c ∷ []
 unfolding encode_utf8

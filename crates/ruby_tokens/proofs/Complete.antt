@@ -1,10 +1,10 @@
 -- What a division spells, the lexer reads, and it has the same tokens.
-use Rattle.std.proofs.Common.{ℕ, ◌≡◌, ◌≢◌, ◌+◌, ◌-◌, ◌<◌, ◌≤◌, ◌^◌, Bool, true, false, refl, sym, ◌∙◌, ap, subst, List, [], ◌∷◌, ◌++◌, length, append_assoc, Option, Some, None, arith}
-use Rattle.std.specs.Prelude.{encode_utf8_all, ◌==◌, if◌then◌else◌, pos, codes}
+use Rattle.std.proofs.Common.{ℕ, ◌≡◌, ◌+◌, ◌-◌, Bool, true, false, refl, sym, ◌∙◌, ap, List, [], ◌∷◌, ◌++◌, length, append_assoc, Some, arith}
+use Rattle.std.specs.Prelude.{encode_utf8_all, ◌==◌, if◌then◌else◌, codes}
 use Rattle.std.specs.Char.{encode_utf8, is_ascii_digit}
 use Rattle.std.proofs.lemmas.List.{append-nil}
 use Rattle.names.specs.Places.{is_among, same_name}
-use Rattle.source_text.specs.Characters.{width, Run, is_blank, starts_word, is_name_character}
+use Rattle.source_text.specs.Characters.{width, Run, is_blank, starts_word}
 use Rattle.ruby_tokens.specs.declared.token.Token.{Token}
 use Rattle.ruby_tokens.specs.declared.token.Kind.{Kind}
 use Rattle.ruby_tokens.specs.declared.token.Kind.TheVariants as kind
@@ -12,13 +12,13 @@ use Rattle.ruby_tokens.specs.declared.mode.Mode.{Mode}
 use Rattle.ruby_tokens.specs.declared.mode.Mode.TheVariants as mode
 use Rattle.ruby_tokens.specs.declared.mode.Lexer.{Lexer}
 use Rattle.ruby_tokens.specs.Words.{word_kind, keywords, begins_upper}
-use Rattle.ruby_tokens.specs.Literals.{IsInteger, plus, minus, Magnitude, zero_alone, nonzero, negative}
+use Rattle.ruby_tokens.specs.Literals.{IsInteger, plus, minus, zero_alone, nonzero}
 use Rattle.ruby_tokens.specs.Tokens.{Lexes, lex_word, lex_integer, lex_single, lex_double, lex_symbol, lex_open, lex_close, lex_semicolon, lex_newline, IsTypeNote, Before, blank_line, in_line, after, is_in_line, Divides, ended, gap, note, comment, token}
 use Rattle.ruby_tokens.specs.Notes.{is_type_note}
-use Rattle.ruby_tokens.specs.Machine.{step, ends, lexer, with_token, between, noted, signed, limit}
+use Rattle.ruby_tokens.specs.Machine.{step, lexer, with_token}
 use Rattle.ruby_tokens.specs.Reads.{reads}
 use Rattle.ruby_tokens.proofs.Characters.{one_byte, not_equal, sort_blank, sort_word, sort_digit, digit_ascii, at_more}
-use Rattle.ruby_tokens.proofs.Runs.{goes, same_end}
+use Rattle.ruby_tokens.proofs.Runs.{goes}
 use Rattle.ruby_tokens.proofs.WordRead.{word_read}
 use Rattle.ruby_tokens.proofs.TextRead.{single_read, double_read}
 use Rattle.ruby_tokens.proofs.NumberRead.{zero_ends, digits_read}

@@ -1,10 +1,9 @@
 -- What the lexer answers is exact.
-use Rattle.std.proofs.Common.{ℕ, ◌≡◌, ◌<◌, ◌^◌, refl, sym, ◌∙◌, ap, List, [], length, Option, Some, None, arith}
+use Rattle.std.proofs.Common.{ℕ, ◌≡◌, sym, ◌∙◌, ap, List, [], length, Some, None}
 use Rattle.std.specs.Str.{chars, IsUtf8}
 use Rattle.std.proofs.lemmas.Str.{encodes-chars}
 use Rattle.source_text.specs.Characters.{width}
 use Rattle.ruby_tokens.specs.declared.token.Token.{Token}
-use Rattle.ruby_tokens.specs.Tokens.{IsDivided}
 use Rattle.ruby_tokens.specs.Reads.{reads, first}
 use Rattle.ruby_tokens.specs.Answers.{Answers}
 use Rattle.ruby_tokens.proofs.Complete.{divides_read}

@@ -15,7 +15,7 @@ use Rattle.ruby_tokens.specs.Words.{word_kind}
 use Rattle.ruby_tokens.specs.Literals.{Magnitude, Digits, EndsZero, negative, Single, Double, NoBrace, IsSymbol, EndsSymbol, is_mark, is_ending, operators}
 use Rattle.ruby_tokens.specs.Tokens.{Lexes, is_in_line, Before, blank_line, in_line, after, Divides, token}
 use Rattle.ruby_tokens.specs.Notes.{is_type_note}
-use Rattle.ruby_tokens.specs.Machine.{lexer, with_token, signed, limit}
+use Rattle.ruby_tokens.specs.Machine.{with_token, signed, limit}
 
 abbrev pub made : Kind → ℕ → ℕ → Token
 made k start end = record { kind = k; start = start; end = end }

@@ -1,5 +1,5 @@
 -- The lexer's loop over the characters.
-use Rattle.std.proofs.Common.{ℕ, suc, ◌≡◌, ◌+◌, ◌<◌, ◌≤◌, ◌^◌, refl, sym, ◌∙◌, ap, subst, List, [], ◌∷◌, length, drop, get_or, Option, Some, None, arith, Result, Ok, Err, add-one, drop-cons}
+use Rattle.std.proofs.Common.{ℕ, suc, ◌≡◌, ◌+◌, ◌<◌, ◌≤◌, sym, ◌∙◌, ap, subst, List, [], ◌∷◌, length, drop, get_or, Option, Some, None, arith, Result, Err, add-one, drop-cons}
 use Rattle.std.specs.Char.{encode_utf8}
 use Rattle.std.proofs.lemmas.Str.{length-encode, len_utf8_bounds}
 use Rattle.source_text.specs.Characters.{width}

@@ -1,6 +1,6 @@
 -- The lexer on comments.
-use Rattle.std.proofs.Common.{ℕ, ◌≡◌, ◌≢◌, ◌+◌, Bool, true, false, refl, sym, ◌∙◌, ap, subst, List, [], ◌∷◌, ◌++◌, length, append_assoc, take, drop, Option, Some, None, arith}
-use Rattle.std.specs.Prelude.{encode_utf8_all, ◌==◌, ◌||◌, ◌&&◌, not, nat_eq, codes, option_and_then}
+use Rattle.std.proofs.Common.{ℕ, ◌≡◌, ◌+◌, Bool, true, false, refl, sym, ◌∙◌, ap, subst, List, [], ◌∷◌, ◌++◌, length, append_assoc, take, drop, Option, Some, None}
+use Rattle.std.specs.Prelude.{◌==◌, ◌||◌, nat_eq, codes, option_and_then}
 use Rattle.std.specs.Cmp.Lexicographic.{pointwise}
 use Rattle.std.proofs.lemmas.Slice.Eq.{bytes_eq-Decides}
 use Rattle.std.specs.Char.{encode_utf8, is_ascii_lowercase}
@@ -11,10 +11,10 @@ use Rattle.ruby_tokens.specs.declared.token.Token.{Token}
 use Rattle.ruby_tokens.specs.declared.mode.Mode.TheVariants as mode
 use Rattle.ruby_tokens.specs.Tokens.{is_in_line, IsTypeNote, type_note}
 use Rattle.ruby_tokens.specs.Notes.{skip, after_letters, after_blanks, begins_colon, begins_typed_name, after_mark, is_named, is_type_note}
-use Rattle.ruby_tokens.specs.Machine.{step, ends, lexer, noted}
+use Rattle.ruby_tokens.specs.Machine.{lexer, noted}
 use Rattle.ruby_tokens.specs.Reads.{reads}
 use Rattle.ruby_tokens.proofs.Characters.{at_none, at_more, not_false, not_true, bool_cases, and_true}
-use Rattle.ruby_tokens.proofs.Runs.{Stops, stops, goes, same_step, same_end}
+use Rattle.ruby_tokens.proofs.Runs.{Stops, goes, same_step, same_end}
 
 in_line_is : (c : ℕ) → is_in_line c ≡ true → (c == 10) ≡ false
 in_line_is c e = not_false (c == 10) e

@@ -1,13 +1,12 @@
 -- The lexer on integers.
-use Rattle.std.proofs.Common.{ℕ, ◌≡◌, ◌≢◌, ◌+◌, ◌-◌, ◌*◌, ◌<◌, ◌≤◌, ◌^◌, Bool, true, false, refl, sym, ◌∙◌, ap, List, [], ◌∷◌, ◌++◌, length, Option, Some, None, arith, leb}
-use Rattle.std.specs.Prelude.{◌==◌, ◌||◌, nat_le, pos}
+use Rattle.std.proofs.Common.{ℕ, ◌≡◌, ◌+◌, ◌-◌, ◌*◌, ◌≤◌, Bool, true, refl, ◌∙◌, List, [], ◌∷◌, length, Some, arith}
+use Rattle.std.specs.Prelude.{◌==◌, nat_le, pos}
 use Rattle.std.specs.Char.{encode_utf8, is_ascii_digit}
-use Rattle.std.proofs.lemmas.Bool.{leb-true}
 use Rattle.ruby_tokens.specs.declared.token.Token.{Token}
 use Rattle.ruby_tokens.specs.declared.token.Kind.TheVariants as kind
 use Rattle.ruby_tokens.specs.declared.mode.Mode.TheVariants as mode
 use Rattle.ruby_tokens.specs.Literals.{Digits, digits_end, digits_more, digits_under, EndsDigits, EndsZero}
-use Rattle.ruby_tokens.specs.Machine.{step, ends, lexer, with_token, limit, signed, digit, goes_on_from_zero}
+use Rattle.ruby_tokens.specs.Machine.{lexer, with_token, limit, signed, digit}
 use Rattle.ruby_tokens.specs.Reads.{reads}
 use Rattle.ruby_tokens.proofs.Characters.{one_byte, digit_ascii, or_false, at_none}
 use Rattle.ruby_tokens.proofs.Runs.{goes, same_step, same_end}

@@ -1,12 +1,10 @@
 -- The lexer on characters that pass a test.
-use Rattle.std.proofs.Common.{ℕ, ◌≡◌, ◌+◌, Bool, true, false, refl, sym, ◌∙◌, ap, List, [], ◌∷◌, ◌++◌, length, append_assoc, Option, Some, None, arith}
+use Rattle.std.proofs.Common.{ℕ, ◌≡◌, ◌+◌, Bool, true, false, ◌∙◌, ap, List, [], ◌∷◌, ◌++◌, length, Some}
 use Rattle.std.specs.Prelude.{encode_utf8_all, option_and_then}
 use Rattle.std.specs.Char.{encode_utf8}
-use Rattle.std.proofs.lemmas.List.{append-nil}
 use Rattle.source_text.specs.Characters.{width, Run, run_ends, run_stops, run_goes}
 use Rattle.ruby_tokens.specs.declared.token.Token.{Token}
 use Rattle.ruby_tokens.specs.declared.mode.Mode.{Mode}
-use Rattle.ruby_tokens.specs.declared.mode.Mode.TheVariants as mode
 use Rattle.ruby_tokens.specs.declared.mode.Lexer.{Lexer}
 use Rattle.ruby_tokens.specs.Machine.{step, ends, lexer}
 use Rattle.ruby_tokens.specs.Reads.{reads}

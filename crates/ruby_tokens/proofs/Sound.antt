@@ -1,11 +1,11 @@
 -- What the lexer reads has a division with the same tokens.
-use Rattle.std.proofs.Common.{ℕ, ◌≡◌, ◌+◌, Bool, true, false, refl, sym, ◌∙◌, ap, subst, List, [], ◌∷◌, ◌++◌, length, Option, Some, None, arith}
+use Rattle.std.proofs.Common.{ℕ, ◌≡◌, ◌+◌, Bool, true, false, refl, sym, ◌∙◌, ap, subst, List, [], ◌∷◌, ◌++◌, length, Option, Some, None}
 use Rattle.std.specs.Prelude.{if◌then◌else◌, option_and_then, pos}
 use Rattle.std.specs.Char.{encode_utf8}
 use Rattle.std.proofs.lemmas.List.{append-nil}
 use Rattle.std.proofs.Math.Nat.{add-zero}
 use Rattle.names.specs.Places.{is_among}
-use Rattle.source_text.specs.Characters.{Run, run_ends}
+use Rattle.source_text.specs.Characters.{run_ends}
 use Rattle.ruby_tokens.specs.declared.token.Token.{Token}
 use Rattle.ruby_tokens.specs.declared.token.Kind.{Kind}
 use Rattle.ruby_tokens.specs.declared.token.Kind.TheVariants as kind
@@ -16,7 +16,7 @@ use Rattle.ruby_tokens.specs.Words.{word_kind}
 use Rattle.ruby_tokens.specs.Literals.{IsSymbol, symbol_word, digits_end, operators}
 use Rattle.ruby_tokens.specs.Tokens.{blank_line, in_line, after, Divides, ended}
 use Rattle.ruby_tokens.specs.Notes.{is_type_note}
-use Rattle.ruby_tokens.specs.Machine.{lexer, with_token, noted, signed, step, ends}
+use Rattle.ruby_tokens.specs.Machine.{with_token, noted, signed, step, ends}
 use Rattle.ruby_tokens.specs.Reads.{reads, first}
 use Rattle.ruby_tokens.proofs.Characters.{one_byte, width_one}
 use Rattle.ruby_tokens.proofs.Complete.{after_word}

@@ -1,12 +1,12 @@
 -- Each step of the lexer inside a token or a comment, read backwards.
-use Rattle.std.proofs.Common.{ℕ, ◌≡◌, ◌≢◌, ◌+◌, ◌-◌, ◌*◌, ◌≤◌, ◌<◌, ◌^◌, Bool, true, false, refl, sym, ◌∙◌, ap, subst, List, [], ◌∷◌, ◌++◌, length, append_assoc, Option, Some, None, arith}
-use Rattle.std.specs.Prelude.{encode_utf8_all, ◌==◌, ◌||◌, not, nat_le, if◌then◌else◌, pos}
+use Rattle.std.proofs.Common.{ℕ, ◌≡◌, ◌≢◌, ◌+◌, ◌-◌, ◌*◌, ◌≤◌, Bool, true, false, refl, sym, ◌∙◌, ap, subst, List, [], ◌∷◌, ◌++◌, length, append_assoc, Option, Some, None, arith}
+use Rattle.std.specs.Prelude.{encode_utf8_all, ◌==◌, ◌||◌, nat_le, if◌then◌else◌, pos}
 use Rattle.std.specs.Char.{encode_utf8, is_ascii_digit, is_ascii_uppercase}
 use Rattle.std.proofs.lemmas.List.{append-nil}
 use Rattle.std.proofs.lemmas.Bool.{eqb-true, leb-true}
 use Rattle.std.proofs.Math.Nat.{add-zero}
 use Rattle.names.specs.Places.{is_among}
-use Rattle.source_text.specs.Characters.{width, Run, run_ends, run_stops, run_goes, is_name_character, starts_word}
+use Rattle.source_text.specs.Characters.{width, Run, run_stops, run_goes, is_name_character, starts_word}
 use Rattle.ruby_tokens.specs.declared.token.Token.{Token}
 use Rattle.ruby_tokens.specs.declared.token.Kind.{Kind}
 use Rattle.ruby_tokens.specs.declared.token.Kind.TheVariants as kind
@@ -14,15 +14,15 @@ use Rattle.ruby_tokens.specs.declared.mode.Mode.{Mode}
 use Rattle.ruby_tokens.specs.declared.mode.Mode.TheVariants as mode
 use Rattle.ruby_tokens.specs.declared.mode.Lexer.{Lexer}
 use Rattle.ruby_tokens.specs.Words.{word_kind}
-use Rattle.ruby_tokens.specs.Literals.{Magnitude, zero_alone, nonzero, Digits, digits_end, digits_more, digits_under, EndsDigits, EndsZero, negative, Single, single_end, single_plain, single_quote, single_backslash, single_other, is_single_plain, Double, double_end, double_plain, double_hash, double_escape, is_double_plain, IsEscape, escape_newline, escape_tab, escape_quote, escape_backslash, escape_hash, NoBrace, IsSymbol, symbol_word, symbol_ending, symbol_operator, EndsSymbol, NotInterface, is_mark, is_ending, operators}
+use Rattle.ruby_tokens.specs.Literals.{Magnitude, zero_alone, nonzero, Digits, digits_end, digits_more, digits_under, Single, single_end, single_plain, single_quote, single_backslash, single_other, is_single_plain, Double, double_end, double_plain, double_hash, double_escape, is_double_plain, IsEscape, escape_newline, escape_tab, escape_quote, escape_backslash, escape_hash, IsSymbol, symbol_word, symbol_ending, symbol_operator, NotInterface, is_mark, is_ending, operators}
 use Rattle.ruby_tokens.specs.Tokens.{is_in_line, in_line, after, Divides}
 use Rattle.ruby_tokens.specs.Notes.{is_type_note}
 use Rattle.ruby_tokens.specs.Machine.{lexer, with_token, noted, limit, signed, digit, goes_on_from_zero, in_comment, in_note, in_word, in_minus, in_zero, in_digits, in_underscore, in_single, in_single_escape, in_double, escaped, escape, in_double_escape, in_double_hash, in_symbol_word, in_symbol_ending, in_symbol_operator, in_colon, in_under, behind, begin}
-use Rattle.ruby_tokens.proofs.Characters.{one_byte, digit_ascii, digit_small, width_more, width_one, word_ascii, or_cases, or_false, ending_mark}
+use Rattle.ruby_tokens.proofs.Characters.{one_byte, digit_ascii, digit_small, width_more, width_one, or_cases, or_false, ending_mark}
 use Rattle.ruby_tokens.proofs.TextRead.{escape_one}
 use Rattle.ruby_tokens.proofs.SymbolRead.{marks_bytes}
 use Rattle.ruby_tokens.proofs.Complete.{after_word}
-use Rattle.ruby_tokens.proofs.From.{made, Body, body_word, body_ending, Completes, FromToken, From, Back, choose, keeps, closed, ended_back, last_back}
+use Rattle.ruby_tokens.proofs.From.{made, Body, body_word, body_ending, Completes, FromToken, From, Back, choose, keeps, ended_back, last_back}
 use Rattle.ruby_tokens.proofs.Begins.{begin_back}
 
 -- the text of a token, with one more character

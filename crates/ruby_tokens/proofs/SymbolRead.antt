@@ -1,9 +1,9 @@
 -- The lexer on symbols.
-use Rattle.std.proofs.Common.{ℕ, ◌≡◌, ◌≢◌, ◌+◌, Bool, true, false, refl, sym, ◌∙◌, ap, subst, List, [], ◌∷◌, ◌++◌, length, Option, Some, None, arith}
-use Rattle.std.specs.Prelude.{encode_utf8_all, ◌==◌, ◌||◌, ◌&&◌}
-use Rattle.std.specs.Char.{encode_utf8, is_ascii_uppercase}
+use Rattle.std.proofs.Common.{ℕ, ◌≡◌, ◌+◌, true, false, refl, sym, ◌∙◌, ap, subst, List, [], ◌∷◌, ◌++◌, length, Some, arith}
+use Rattle.std.specs.Prelude.{encode_utf8_all, ◌==◌}
+use Rattle.std.specs.Char.{encode_utf8}
 use Rattle.std.proofs.lemmas.Bool.{eqb-true}
-use Rattle.std.proofs.lemmas.List.{append-nil, length-append}
+use Rattle.std.proofs.lemmas.List.{append-nil}
 use Rattle.std.proofs.lemmas.Str.{encodes-append}
 use Rattle.names.specs.Places.{is_among}
 use Rattle.source_text.specs.Characters.{width, Run, run_ends, run_stops, run_goes, is_name_character, starts_word}
@@ -11,9 +11,9 @@ use Rattle.ruby_tokens.specs.declared.token.Token.{Token}
 use Rattle.ruby_tokens.specs.declared.token.Kind.TheVariants as kind
 use Rattle.ruby_tokens.specs.declared.mode.Mode.TheVariants as mode
 use Rattle.ruby_tokens.specs.Literals.{IsSymbol, symbol_word, symbol_ending, symbol_operator, EndsSymbol, NotInterface, is_mark, is_ending, operators}
-use Rattle.ruby_tokens.specs.Machine.{step, ends, lexer, with_token}
+use Rattle.ruby_tokens.specs.Machine.{step, lexer, with_token}
 use Rattle.ruby_tokens.specs.Reads.{reads}
-use Rattle.ruby_tokens.proofs.Characters.{one_byte, text_none, text_more, at_none, at_more, bool_cases, not_true, mark_plain, no_ending, word_ascii, upper_name, ending_mark, width_more}
+use Rattle.ruby_tokens.proofs.Characters.{one_byte, at_more, bool_cases, mark_plain, no_ending, upper_name, ending_mark}
 use Rattle.ruby_tokens.proofs.Runs.{Stops, stops, run_read, goes, same_step, same_end}
 
 module _ (tokens : List Token) (start : ℕ) where

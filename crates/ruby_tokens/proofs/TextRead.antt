@@ -1,15 +1,14 @@
 -- The lexer on strings.
-use Rattle.std.proofs.Common.{ℕ, ◌≡◌, ◌≢◌, ◌+◌, Bool, true, false, refl, sym, ◌∙◌, ap, List, [], ◌∷◌, ◌++◌, length, Option, Some, None, arith}
-use Rattle.std.specs.Prelude.{encode_utf8_all, ◌==◌, ◌||◌, not}
+use Rattle.std.proofs.Common.{ℕ, ◌≡◌, ◌+◌, true, refl, ◌∙◌, ap, List, [], ◌∷◌, ◌++◌, length, Some, arith}
+use Rattle.std.specs.Prelude.{encode_utf8_all, ◌==◌, not}
 use Rattle.std.specs.Char.{encode_utf8}
-use Rattle.source_text.specs.Characters.{width}
 use Rattle.ruby_tokens.specs.declared.token.Token.{Token}
 use Rattle.ruby_tokens.specs.declared.token.Kind.TheVariants as kind
 use Rattle.ruby_tokens.specs.declared.mode.Mode.TheVariants as mode
 use Rattle.ruby_tokens.specs.Literals.{Single, single_end, single_plain, single_quote, single_backslash, single_other, is_single_plain, Double, double_end, double_plain, double_hash, double_escape, is_double_plain, IsEscape, escape_newline, escape_tab, escape_quote, escape_backslash, escape_hash, NoBrace}
-use Rattle.ruby_tokens.specs.Machine.{step, ends, lexer, with_token, escaped}
+use Rattle.ruby_tokens.specs.Machine.{step, lexer, with_token, escaped}
 use Rattle.ruby_tokens.specs.Reads.{reads}
-use Rattle.ruby_tokens.proofs.Characters.{one_byte, width_one, text_more, text_none, at_none, and_true, not_false, not_equal}
+use Rattle.ruby_tokens.proofs.Characters.{one_byte, width_one, text_more, text_none, and_true, not_false, not_equal}
 use Rattle.ruby_tokens.proofs.Runs.{goes, same_step, same_end}
 
 single_step : (tokens : List Token) (start : ℕ) (text : List ℕ) (at c : ℕ) → is_single_plain c ≡ true → step tokens (mode.Single start text) at c ≡ Some (lexer tokens (mode.Single start (text ++ encode_utf8 c)))

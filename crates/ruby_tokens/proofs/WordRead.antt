@@ -1,12 +1,11 @@
 -- The lexer on words.
-use Rattle.std.proofs.Common.{ℕ, ◌≡◌, ◌+◌, Bool, true, false, refl, sym, ◌∙◌, ap, List, [], ◌∷◌, ◌++◌, length, Option, Some, None, arith}
+use Rattle.std.proofs.Common.{ℕ, ◌≡◌, ◌+◌, refl, ◌∙◌, List, [], ◌∷◌, ◌++◌}
 use Rattle.std.specs.Prelude.{encode_utf8_all}
-use Rattle.std.specs.Char.{encode_utf8}
 use Rattle.source_text.specs.Characters.{width, Run, is_name_character}
 use Rattle.ruby_tokens.specs.declared.token.Token.{Token}
 use Rattle.ruby_tokens.specs.declared.mode.Mode.TheVariants as mode
 use Rattle.ruby_tokens.specs.Words.{word_kind}
-use Rattle.ruby_tokens.specs.Machine.{step, ends, lexer, with_token}
+use Rattle.ruby_tokens.specs.Machine.{lexer, with_token}
 use Rattle.ruby_tokens.specs.Reads.{reads}
 use Rattle.ruby_tokens.proofs.Runs.{Stops, stops, run_read, same_step, same_end}
 

@@ -1,5 +1,5 @@
 -- What a step of the lexer does, against the machine.
-use Rattle.std.specs.Prelude.{◌≡◌, ℕ, ◌≤◌, List, Option, Some, None, Result, Ok, Err}
+use Rattle.std.specs.Prelude.{◌≡◌, ◌≤◌, List, Option, Some, None, Result, Ok, Err}
 use Rattle.ruby_tokens.specs.declared.token.Token.{Token}
 use Rattle.ruby_tokens.specs.declared.mode.Mode.{Mode}
 use Rattle.ruby_tokens.specs.declared.mode.Mode.TheVariants as mode

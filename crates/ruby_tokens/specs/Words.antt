@@ -1,5 +1,5 @@
 -- The words of Ruby text.
-use Rattle.std.specs.Prelude.{ℕ, Bool, true, false, ◌&&◌, ◌||◌, ◌==◌, if◌then◌else◌, List, [], ◌∷◌, codes}
+use Rattle.std.specs.Prelude.{ℕ, Bool, false, if◌then◌else◌, List, [], ◌∷◌, codes}
 use Rattle.std.specs.Char.{is_ascii_uppercase}
 use Rattle.names.specs.Places.{same_name, is_among}
 use Rattle.ruby_tokens.specs.declared.token.Kind.{Kind}

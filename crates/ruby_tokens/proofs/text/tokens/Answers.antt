@@ -1,6 +1,4 @@
-use Rattle.std.proofs.Common.{◌≡◌, ◌<◌, ◌∙◌, subst, arith, Err}
-use Rattle.ruby_tokens.specs.Does.{Ends}
-use Rattle.ruby_tokens.specs.Reads.{reads, first}
+use Rattle.std.proofs.Common.{◌∙◌, arith}
 use Rattle.ruby_tokens.proofs.Exact.{width_is, found, not_found}
 use Rattle.ruby_tokens.proofs.text.tokens.Goals as goal
 

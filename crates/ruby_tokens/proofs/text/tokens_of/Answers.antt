@@ -1,9 +1,7 @@
-use Rattle.std.proofs.Common.{◌≡◌, ◌+◌, ◌<◌, ◌≤◌, sym, ◌∙◌, ap, subst, drop, Err, rules, arith}
-use Rattle.std.specs.Char.{encode_utf8}
+use Rattle.std.proofs.Common.{◌≡◌, ◌+◌, sym, subst, drop, rules, arith}
 use Rattle.std.proofs.lemmas.List.{drop_all}
 use Rattle.source_text.specs.Characters.{width}
 use Rattle.ruby_tokens.specs.Machine.{step}
-use Rattle.ruby_tokens.specs.Does.{Does, Ends, IsFit}
 use Rattle.ruby_tokens.specs.Reads.{reads, first}
 use Rattle.ruby_tokens.proofs.Loop.{place_more, room, run_more, run_none, run_end, refuse}
 use Rattle.ruby_tokens.proofs.text.tokens_of.Goals as goal
