@@ -9,13 +9,13 @@ since_newline-append : (n : ℕ) (bs : List ℕ) (b : ℕ) → since_newline n (
 since_newline-append n [] b = refl
 since_newline-append n (c ∷ bs) b =
     elim (c == 10) as (λ t. cond t (since_newline 0 (bs ++ b ∷ [])) (since_newline (n + 1) (bs ++ b ∷ [])) ≡ cond (b == 10) 0 (cond t (since_newline 0 bs) (since_newline (n + 1) bs) + 1))
-      [ true ↦ since_newline-append 0 bs b | false ↦ since_newline-append (n + 1) bs b ]
+    [ true ↦ since_newline-append 0 bs b | false ↦ since_newline-append (n + 1) bs b ]
 
 since_newline_le : (n : ℕ) (bs : List ℕ) → since_newline n bs ≤ n + length bs
 since_newline_le n [] = omega arith
 since_newline_le n (c ∷ bs) =
     elim (c == 10) as (λ t. cond t (since_newline 0 bs) (since_newline (n + 1) bs) ≤ n + length (c ∷ bs))
-      [ true ↦ omega (arith, since_newline_le 0 bs) | false ↦ omega (arith, since_newline_le (n + 1) bs) ]
+    [ true ↦ omega (arith, since_newline_le 0 bs) | false ↦ omega (arith, since_newline_le (n + 1) bs) ]
 
 -- a line and a column are at most one more than the bytes before them
 pub line_le : (text : List ℕ) (at : ℕ) → line_at text at ≤ at + 1

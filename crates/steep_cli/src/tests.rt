@@ -5,8 +5,11 @@ use std::alloc::Global;
 use std::test::Fail;
 
 const SIGNATURE: &[u8] = b"class A\n  def f: () -> Integer\nend\n";
+
 const MISFIT: &[u8] = b"class A\n  def f\n    \"a\"\n  end\nend\n";
-const LIST: &[u8] = b"b.rb:2:3: [Ruby::MethodBodyTypeMismatch] ::String does not fit ::Integer\nchecked 2 files: 1 diagnostics\n";
+
+const LIST: &[u8] =
+    b"b.rb:2:3: [Ruby::MethodBodyTypeMismatch] ::String does not fit ::Integer\nchecked 2 files: 1 diagnostics\n";
 
 fn check_words(alloc: Global) -> Result<Many<Word>, NoMemory> {
     let mut words = Many::new(alloc);
@@ -37,7 +40,9 @@ fn a_body_that_does_not_fit_is_listed(rt: HostRuntime) -> Result<(), Fail> {
     let mut out = MemSink::new(alloc, 1000, Many::new(alloc), 1000)?;
     let mut err = MemSink::new(alloc, 1000, Many::new(alloc), 1000)?;
     let words = check_words(alloc)?;
-    let status = tool(&rt, alloc, &words, &mut files, &mut out, &mut err, &OpenGate)?;
+    let status = tool(
+        &rt, alloc, &words, &mut files, &mut out, &mut err, &OpenGate,
+    )?;
     assert_eq!(rt; status, Status::Listed);
     assert_eq!(rt; out.bytes(), LIST);
     assert_eq!(rt; err.bytes(), b"".as_slice());
@@ -53,7 +58,9 @@ fn each_failing_read_is_answered(rt: HostRuntime) -> Result<(), Fail> {
         let mut out = MemSink::new(alloc, 1000, Many::new(alloc), 1000)?;
         let mut err = MemSink::new(alloc, 1000, Many::new(alloc), 1000)?;
         let words = check_words(alloc)?;
-        let status = tool(&rt, alloc, &words, &mut files, &mut out, &mut err, &OpenGate)?;
+        let status = tool(
+            &rt, alloc, &words, &mut files, &mut out, &mut err, &OpenGate,
+        )?;
         assert_eq!(rt; status, Status::ReadFault);
         assert_eq!(rt; out.bytes(), b"".as_slice());
         assert_eq!(rt; err.bytes(), b"read fault\n".as_slice());
@@ -68,7 +75,9 @@ fn a_failing_write_leaves_a_front(rt: HostRuntime) -> Result<(), Fail> {
     let mut out = MemSink::new(alloc, 1000, Many::from_slice(alloc, &[2])?, 7)?;
     let mut err = MemSink::new(alloc, 1000, Many::new(alloc), 1000)?;
     let words = check_words(alloc)?;
-    let status = tool(&rt, alloc, &words, &mut files, &mut out, &mut err, &OpenGate)?;
+    let status = tool(
+        &rt, alloc, &words, &mut files, &mut out, &mut err, &OpenGate,
+    )?;
     assert_eq!(rt; status, Status::WriteFault);
     assert_eq!(rt; out.bytes(), b"b.rb:2:".as_slice());
     Ok(())

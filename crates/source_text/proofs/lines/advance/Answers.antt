@@ -11,18 +11,18 @@ pub loop-i-preserved : goal.loop-i-preserved
 loop-i-preserved c =
     let within : c.loop-i.i < length c.args.text.now = omega arith in
     elim c.if-text-i-eq10.branch [
-      then-text-i-eq10 w ↦
-        let is : (get_or c.args.text.now c.loop-i.i 0 == 10) ≡ true = search rules in
-        record {
-          within = omega arith;
-          line = w.line-is ∙ ap (λ n. n + 1) c.loop-i.invariant.line ∙ sym (line_newline c.args.text.now c.loop-i.i within is);
-          column = w.column-is ∙ sym (column_newline c.args.text.now c.loop-i.i within is);
-        }
-    | else-text-i-eq10 w ↦
-        let is : (get_or c.args.text.now c.loop-i.i 0 == 10) ≡ false = search rules in
-        record {
-          within = omega arith;
-          line = w.line-is ∙ c.loop-i.invariant.line ∙ sym (line_other c.args.text.now c.loop-i.i within is);
-          column = w.column-is ∙ ap (λ n. n + 1) c.loop-i.invariant.column ∙ sym (column_other c.args.text.now c.loop-i.i within is);
-        }
+      | then-text-i-eq10 w ↦
+          let is : (get_or c.args.text.now c.loop-i.i 0 == 10) ≡ true = search rules in
+          record {
+            within = omega arith;
+            line = w.line-is ∙ ap (λ n. n + 1) c.loop-i.invariant.line ∙ sym (line_newline c.args.text.now c.loop-i.i within is);
+            column = w.column-is ∙ sym (column_newline c.args.text.now c.loop-i.i within is);
+          }
+      | else-text-i-eq10 w ↦
+          let is : (get_or c.args.text.now c.loop-i.i 0 == 10) ≡ false = search rules in
+          record {
+            within = omega arith;
+            line = w.line-is ∙ c.loop-i.invariant.line ∙ sym (line_other c.args.text.now c.loop-i.i within is);
+            column = w.column-is ∙ ap (λ n. n + 1) c.loop-i.invariant.column ∙ sym (column_other c.args.text.now c.loop-i.i within is);
+          }
     ]
