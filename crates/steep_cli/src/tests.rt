@@ -3,6 +3,7 @@ use plain_data::{Many, NoMemory, Word};
 use run_base::{MemFiles, MemSink, NamedBytes, OpenGate};
 use std::alloc::Global;
 use std::test::Fail;
+use std::thread::Threads;
 
 const SIGNATURE: &[u8] = b"class A\n  def f: () -> Integer\nend\n";
 
@@ -87,5 +88,50 @@ fn a_failing_write_leaves_a_front(rt: HostRuntime) -> Result<(), Fail> {
 fn the_codes_of_the_statuses(rt: HostRuntime) -> Result<(), Fail> {
     assert_eq!(rt; Status::Done.code(), 0);
     assert_eq!(rt; Status::GoesOn.code(), 6);
+    Ok(())
+}
+
+/// Checks a signature file and a Ruby file of so many newlines.
+fn newlines<R: Threads + Sync>(
+    rt: &R,
+    alloc: Global,
+    signature: usize,
+    ruby: usize,
+) -> Result<MemSink, Fail> {
+    let mut named = Many::new(alloc);
+    named.push(NamedBytes {
+        name: Word::of(alloc, "a.rbs")?,
+        bytes: Many::from_vec(Vec::from_elem(alloc, b'\n', signature)?),
+    })?;
+    named.push(NamedBytes {
+        name: Word::of(alloc, "b.rb")?,
+        bytes: Many::from_vec(Vec::from_elem(alloc, b'\n', ruby)?),
+    })?;
+    let mut files = MemFiles::new(named, Many::new(alloc));
+    let mut out = MemSink::new(alloc, 1000, Many::new(alloc), 1000)?;
+    let mut err = MemSink::new(alloc, 1000, Many::new(alloc), 1000)?;
+    let words = check_words(alloc)?;
+    tool(rt, alloc, &words, &mut files, &mut out, &mut err, &OpenGate)?;
+    Ok(out)
+}
+
+#[test]
+fn files_of_the_greatest_size_and_one_byte_more(rt: HostRuntime) -> Result<(), Fail> {
+    let alloc = rt.alloc();
+    let most = newlines(&rt, alloc, 1_048_576, 1_048_576)?;
+    assert_eq!(rt;
+        most.bytes(),
+        b"checked 2 files: 0 diagnostics\n".as_slice()
+    );
+    let signature = newlines(&rt, alloc, 1_048_577, 1_048_577)?;
+    assert_eq!(rt;
+        signature.bytes(),
+        b"a.rbs:1:1: [Strict::Limit] the text is past a limit\nchecked 2 files: 1 diagnostics\n".as_slice()
+    );
+    let ruby = newlines(&rt, alloc, 0, 1_048_577)?;
+    assert_eq!(rt;
+        ruby.bytes(),
+        b"b.rb:1:1: [Strict::Limit] the text is past a limit\nchecked 2 files: 1 diagnostics\n".as_slice()
+    );
     Ok(())
 }

@@ -1,0 +1,4 @@
+class A
+end
+class A
+end

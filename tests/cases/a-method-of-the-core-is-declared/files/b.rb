@@ -1,0 +1,5 @@
+class A
+  def to_s
+    ""
+  end
+end

@@ -1,0 +1,6 @@
+class A
+  # @type var x: Integer
+  def f
+    nil
+  end
+end

@@ -1,0 +1,6 @@
+class A
+  def f
+    # @type var x: Integer
+    nil
+  end
+end

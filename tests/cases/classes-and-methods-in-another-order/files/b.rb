@@ -1,0 +1,2 @@
+class B end
+class A; def g() :x end; def f; nil end; end

@@ -1,0 +1,1 @@
+class Aé; def f() "é" end; end

@@ -1,0 +1,3 @@
+class A
+  def initialize() 1 end
+end

@@ -1,0 +1,6 @@
+class A
+  def f
+    1
+    nil
+  end
+end
