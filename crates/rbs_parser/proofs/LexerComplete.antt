@@ -1,16 +1,15 @@
 -- Tokens that the characters divide into are the tokens that the reader reads.
-use Rattle.std.proofs.Common.{ℕ, ◌≡◌, ◌+◌, refl, sym, ap, ◌∙◌, subst, List, [], ◌∷◌, ◌++◌, Bool, true, false, cond, Option, Some, None, append_assoc, append-nil, add-zero, arith, eqb}
+use Rattle.std.proofs.Common.{ℕ, ◌≡◌, ◌+◌, refl, sym, ap, ◌∙◌, subst, List, [], ◌∷◌, ◌++◌, Bool, true, false, cond, Option, Some, append_assoc, append-nil, add-zero, arith, eqb}
 use Rattle.std.proofs.lemmas.Bool.{eqb-true}
-use Rattle.std.specs.Prelude.{encode_utf8, encode_utf8_all, not, option_and_then}
+use Rattle.std.specs.Prelude.{encode_utf8, encode_utf8_all, not}
 use Rattle.source_text.specs.Characters.{width, is_name_character, starts_word, Run, run_ends, run_stops, run_goes}
 use Rattle.rbs_parser.specs.declared.token.Token.{Token}
 use Rattle.rbs_parser.specs.declared.token.Kind.TheVariants as kind
-use Rattle.rbs_parser.specs.declared.lexer.Lexer.{Lexer}
 use Rattle.rbs_parser.specs.declared.lexer.Mode.TheVariants as mode
 use Rattle.rbs_parser.specs.declared.lexer.CharKind.TheVariants as char
 use Rattle.rbs_parser.specs.Tokens.{word_kind, is_in_line, is_gap, Lexes, lex_word, lex_colon, lex_comma, lex_open, lex_close, lex_arrow, Divides, ended, gap, comment, token}
 use Rattle.rbs_parser.specs.Lexer.{next, final, reading, token_of, past, begin, between, char_kind}
-use Rattle.rbs_parser.proofs.Runs.{reads, reads_goes, reads_end}
+use Rattle.rbs_parser.proofs.Runs.{reads, reads_goes}
 use Rattle.rbs_parser.proofs.LexerRuns.{lexed, past_width, past_gap, gap_kind}
 
 -- the reader stands between tokens behind a word

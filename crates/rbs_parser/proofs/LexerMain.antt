@@ -1,5 +1,5 @@
 -- What the loop over the characters keeps, and what it gives.
-use Rattle.std.proofs.Common.{ℕ, suc, ◌≡◌, ◌+◌, ◌<◌, ◌≤◌, ◌^◌, refl, sym, ap, ◌∙◌, subst, List, [], ◌∷◌, ◌++◌, Bool, true, false, cond, Option, Some, None, length, length-append, drop, drop-cons, add-one, get_or, arith, eqb}
+use Rattle.std.proofs.Common.{ℕ, suc, ◌≡◌, ◌+◌, ◌<◌, ◌≤◌, refl, sym, ap, ◌∙◌, subst, List, [], ◌∷◌, ◌++◌, Bool, true, false, cond, Option, Some, None, length, length-append, drop, drop-cons, add-one, get_or, arith, eqb}
 use Rattle.std.specs.Prelude.{encode_utf8, encode_utf8_all, IsUtf8, Result, Ok, Err, IfOk}
 use Rattle.std.specs.Str.{chars}
 use Rattle.std.proofs.lemmas.Str.{chars-encodes}
@@ -11,8 +11,7 @@ use Rattle.rbs_parser.specs.declared.lexer.Mode.{Mode}
 use Rattle.rbs_parser.specs.declared.lexer.Mode.TheVariants as mode
 use Rattle.rbs_parser.specs.declared.lexer.CharKind.{CharKind}
 use Rattle.rbs_parser.specs.declared.lexer.CharKind.TheVariants as char
-use Rattle.rbs_parser.specs.Tokens.{Divides}
-use Rattle.rbs_parser.specs.Lexer.{AnswersTokens, next, final, reading, token_of, past, step, begin, between, char_kind}
+use Rattle.rbs_parser.specs.Lexer.{AnswersTokens, next, final, reading, token_of, past, step, begin, char_kind}
 use Rattle.rbs_parser.proofs.Runs.{reads_goes, reads_stops, reads_end}
 use Rattle.rbs_parser.proofs.LexerRuns.{lexed, past_width}
 use Rattle.rbs_parser.proofs.LexerComplete.{complete}

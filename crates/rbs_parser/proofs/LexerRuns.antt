@@ -1,11 +1,10 @@
 -- Runs of the reader of tokens.
-use Rattle.std.proofs.Common.{ℕ, ◌≡◌, ◌+◌, ◌<◌, refl, sym, ap, ◌∙◌, subst, List, [], ◌∷◌, ◌++◌, Bool, true, false, cond, Option, Some, None, length, length-append, append_assoc, add_assoc, arith, eqb}
-use Rattle.std.specs.Prelude.{encode_utf8, encode_utf8_all, ◌||◌, ◌==◌}
+use Rattle.std.proofs.Common.{ℕ, ◌≡◌, ◌+◌, refl, sym, subst, List, ◌∷◌, Bool, true, false, Option, length-append, arith, eqb}
+use Rattle.std.specs.Prelude.{encode_utf8, encode_utf8_all, ◌||◌}
 use Rattle.std.proofs.lemmas.Bool.{eqb-true}
-use Rattle.source_text.specs.Characters.{width, is_blank}
+use Rattle.source_text.specs.Characters.{width}
 use Rattle.rbs_parser.specs.declared.token.Token.{Token}
 use Rattle.rbs_parser.specs.declared.lexer.Lexer.{Lexer}
-use Rattle.rbs_parser.specs.declared.lexer.CharKind.{CharKind}
 use Rattle.rbs_parser.specs.declared.lexer.CharKind.TheVariants as char
 use Rattle.rbs_parser.specs.Tokens.{is_gap}
 use Rattle.rbs_parser.specs.Lexer.{next, final, char_kind, past}

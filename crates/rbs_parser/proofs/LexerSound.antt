@@ -1,7 +1,7 @@
 -- The tokens that the reader reads are those that the characters divide into.
 use Rattle.std.proofs.Common.{ℕ, ◌≡◌, ◌+◌, refl, sym, ap, ◌∙◌, subst, List, [], ◌∷◌, ◌++◌, Bool, true, false, cond, Option, Some, None, append_assoc, append-nil, add-zero, arith, eqb}
 use Rattle.std.proofs.lemmas.Bool.{eqb-true}
-use Rattle.std.specs.Prelude.{encode_utf8, encode_utf8_all, not, ◌==◌}
+use Rattle.std.specs.Prelude.{encode_utf8, encode_utf8_all}
 use Rattle.source_text.specs.Characters.{width, is_name_character, starts_word, Run, run_ends, run_stops, run_goes}
 use Rattle.rbs_parser.specs.declared.token.Token.{Token}
 use Rattle.rbs_parser.specs.declared.token.Kind.{Kind}

@@ -1,7 +1,7 @@
 -- Methods and classes, part by part.
-use Rattle.std.proofs.Common.{ℕ, suc, ◌≡◌, ◌+◌, ◌<◌, ◌≤◌, refl, sym, ap, ◌∙◌, subst, Bool, true, false, List, [], ◌∷◌, ◌++◌, length, drop, get_or, Option, Some, None, append-nil, arith}
+use Rattle.std.proofs.Common.{ℕ, ◌≡◌, ◌+◌, ◌<◌, ◌≤◌, refl, sym, ap, ◌∙◌, subst, Bool, true, false, List, [], ◌∷◌, ◌++◌, length, drop, get_or, Option, Some, None, append-nil, arith}
 use Rattle.std.proofs.lemmas.List.{drop_all}
-use Rattle.std.specs.Prelude.{◌↔◌, ◌||◌, slice_get, map, IsTrue}
+use Rattle.std.specs.Prelude.{◌↔◌, ◌||◌, slice_get, IsTrue}
 use Rattle.std.specs.List.{IsDistinct, AllByRecursion}
 use Rattle.names.specs.Places.{same_name, is_among}
 use Rattle.sig_model.specs.declared.ty.Ty.{Ty}
@@ -15,10 +15,10 @@ use Rattle.sig_model.specs.declared.decl.Part.{Part}
 use Rattle.sig_model.specs.PlainTy as plain
 use Rattle.sig_model.specs.PlainTy.{PlainTy, plain_ty, plain_tys, plain_fun}
 use Rattle.sig_model.specs.PlainTyLaws.{plain_fun-out}
-use Rattle.sig_model.specs.PlainMember.{plain_member, plain_methods}
-use Rattle.sig_model.specs.PlainDecl.{PlainDecls, PlainParts, plain_decl, plain_decls, plain_parts, part_before, more_decls}
-use Rattle.rbs_parser.specs.Profile.{IsDeclared, IsKnown, IsMethodName, IsWellNamed, HasWellNamed, core_classes, result_classes, result_of, class_before, classes_of, method_before, methods_of, class_names}
-use Rattle.rbs_parser.specs.WellNamed.{Left, MethodsLeft, ClassesLeft, MethodsOfClasses, AdmitsPart, AdmitsDecl, AdmitsMethods}
+use Rattle.sig_model.specs.PlainMember.{plain_member}
+use Rattle.sig_model.specs.PlainDecl.{PlainDecls, PlainParts, plain_decl, plain_decls, plain_parts, part_before}
+use Rattle.rbs_parser.specs.Profile.{IsDeclared, IsKnown, IsMethodName, IsWellNamed, HasWellNamed, core_classes, result_classes, result_of, classes_of, method_before, methods_of, class_names}
+use Rattle.rbs_parser.specs.WellNamed.{MethodsLeft, ClassesLeft, MethodsOfClasses, AdmitsPart, AdmitsDecl, AdmitsMethods}
 use Rattle.rbs_parser.proofs.LexerMain.{left_at}
 use Rattle.rbs_parser.proofs.Named.{left_is, all_of_map}
 

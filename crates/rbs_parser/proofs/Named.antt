@@ -1,7 +1,7 @@
 -- Names one by one, and names of a whole list.
-use Rattle.std.proofs.Common.{ℕ, suc, ◌≡◌, ◌+◌, ◌<◌, ◌≤◌, refl, sym, ap, ◌∙◌, subst, Bool, true, false, cond, List, [], ◌∷◌, ◌++◌, length, get_or, Option, Some, None, arith, eqb, ltb}
-use Rattle.std.specs.Prelude.{◌↔◌, ◌||◌, ◌&&◌, not, map, nat_eq, nat_lt, position, IsTrue}
-use Rattle.std.specs.List.{IsDistinct, AllByRecursion, list_any, prefix_len, position_or_len}
+use Rattle.std.proofs.Common.{ℕ, suc, ◌≡◌, ◌+◌, refl, sym, ap, ◌∙◌, Bool, true, false, cond, List, [], ◌∷◌, ◌++◌, length, Some, None, arith}
+use Rattle.std.specs.Prelude.{◌↔◌, ◌||◌, ◌&&◌, not, map, nat_eq, nat_lt}
+use Rattle.std.specs.List.{IsDistinct, AllByRecursion, list_any, position_or_len}
 use Rattle.std.specs.Option.{is_some}
 use Rattle.std.proofs.lemmas.Bool.Decides.{nat_tests}
 use Rattle.names.specs.Places.{same_name, is_among, place_of}

@@ -1,15 +1,14 @@
 -- Tokens that are classes are read as these classes.
-use Rattle.std.proofs.Common.{ℕ, ◌≡◌, refl, sym, ap, ◌∙◌, List, [], ◌∷◌, Option, Some, None}
+use Rattle.std.proofs.Common.{ℕ, ◌≡◌, refl, sym, ap, ◌∙◌, List, Option, Some}
 use Rattle.std.specs.Prelude.{option_and_then}
 use Rattle.sig_model.specs.PlainTy.{PlainTy, no_args}
 use Rattle.sig_model.specs.PlainDecl.{PlainDecls, PlainParts, no_decls, more_decls, no_parts}
 use Rattle.sig_model.specs.Built.{class_of}
 use Rattle.rbs_parser.specs.declared.token.Token.{Token}
 use Rattle.rbs_parser.specs.declared.token.Kind.{Kind}
-use Rattle.rbs_parser.specs.declared.token.Kind.TheVariants as kind
 use Rattle.rbs_parser.specs.declared.parser.Progress.TheVariants as progress
 use Rattle.rbs_parser.specs.Grammar.{span, with_method, IsResult, result_nil, result_void, result_name, Methods, methods_end, methods_more, Classes, classes_end, classes_more}
-use Rattle.rbs_parser.specs.Parser.{State, reading, outside, inside, nothing_read, next, final, decls_then, parts_then, outcome, method_ends}
+use Rattle.rbs_parser.specs.Parser.{State, reading, outside, inside, next, final, decls_then, parts_then, outcome, method_ends}
 use Rattle.rbs_parser.proofs.Runs.{reads}
 use Rattle.rbs_parser.proofs.Plain.{decls_then_none, decls_then_more, parts_then_none, parts_then_more}
 

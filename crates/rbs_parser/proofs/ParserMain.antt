@@ -1,12 +1,10 @@
 -- What the loop over the tokens keeps, and what it gives.
-use Rattle.std.proofs.Common.{ℕ, ◌≡◌, ◌+◌, ◌<◌, refl, sym, ap, ◌∙◌, subst, List, [], ◌∷◌, Option, Some, None, length, drop, get_or}
+use Rattle.std.proofs.Common.{ℕ, ◌≡◌, ◌+◌, ◌<◌, sym, ap, ◌∙◌, List, [], Option, Some, None, length, drop, get_or}
 use Rattle.std.specs.Option.{option_map}
 use Rattle.sig_model.specs.declared.decl.Decl.{Decl}
-use Rattle.sig_model.specs.PlainDecl.{PlainDecls, no_decls, plain_decls}
+use Rattle.sig_model.specs.PlainDecl.{no_decls, plain_decls}
 use Rattle.rbs_parser.specs.declared.token.Token.{Token}
-use Rattle.rbs_parser.specs.declared.parser.Parser.{Parser}
-use Rattle.rbs_parser.specs.Grammar.{Classes}
-use Rattle.rbs_parser.specs.Parser.{State, nothing_read, next, final, state, AnswersClasses}
+use Rattle.rbs_parser.specs.Parser.{State, nothing_read, next, final, AnswersClasses}
 use Rattle.rbs_parser.proofs.Runs.{reads_goes, reads_stops, reads_end}
 use Rattle.rbs_parser.proofs.LexerMain.{left_at}
 use Rattle.rbs_parser.proofs.ParserComplete.{parsed, complete}

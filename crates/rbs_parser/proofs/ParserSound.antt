@@ -1,5 +1,5 @@
 -- The classes that are read are those that the tokens are.
-use Rattle.std.proofs.Common.{ℕ, ◌≡◌, refl, sym, ap, ◌∙◌, subst, List, [], ◌∷◌, Option, Some, None}
+use Rattle.std.proofs.Common.{ℕ, ◌≡◌, refl, sym, subst, List, [], ◌∷◌, Option, Some, None}
 use Rattle.sig_model.specs.PlainTy.{PlainTy, no_args}
 use Rattle.sig_model.specs.PlainDecl.{PlainDecls, PlainParts, no_decls, more_decls, no_parts}
 use Rattle.sig_model.specs.Built.{class_of}
@@ -11,7 +11,7 @@ use Rattle.rbs_parser.specs.declared.parser.Wanted.TheVariants as wanted
 use Rattle.rbs_parser.specs.declared.parser.Progress.{Progress}
 use Rattle.rbs_parser.specs.declared.parser.Progress.TheVariants as progress
 use Rattle.rbs_parser.specs.Grammar.{tok, span, with_method, IsResult, result_nil, result_void, result_name, Methods, methods_end, methods_more, Classes, classes_end, classes_more}
-use Rattle.rbs_parser.specs.Parser.{State, Stage, reading, outside, named_next, inside, nothing_read, next, final, ends, step, decls_then, parts_then, top_level, class_name, method_name, mark, method_goes, with_progress, between, method_ends, method_type, in_class, outcome}
+use Rattle.rbs_parser.specs.Parser.{State, Stage, outside, named_next, inside, nothing_read, next, final, ends, step, decls_then, parts_then, top_level, class_name, method_name, with_progress, between, method_type, in_class}
 use Rattle.rbs_parser.proofs.Runs.{reads_keeps}
 use Rattle.rbs_parser.proofs.Plain.{decls_then_none, decls_then_more, parts_then_none, parts_then_more}
 use Rattle.rbs_parser.proofs.ParserComplete.{parsed}

@@ -1,5 +1,5 @@
 -- A reader of tokens that takes one character at a time.
-use Rattle.std.specs.Prelude.{◌≡◌, ℕ, ◌+◌, Bool, ◌==◌, if◌then◌else◌, List, [], ◌∷◌, ◌++◌, Option, Some, None, option_and_then, length, encode_utf8, IsUtf8}
+use Rattle.std.specs.Prelude.{◌≡◌, ℕ, ◌+◌, ◌==◌, if◌then◌else◌, List, [], ◌∷◌, ◌++◌, Option, Some, None, length, encode_utf8, IsUtf8}
 use Rattle.std.specs.Str.{chars}
 use Rattle.source_text.specs.Characters.{is_name_character, starts_word}
 use Rattle.rbs_parser.specs.declared.token.Token.{Token}

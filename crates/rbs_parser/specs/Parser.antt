@@ -1,11 +1,11 @@
 -- A reader of classes that takes one token at a time.
-use Rattle.std.specs.Prelude.{◌≡◌, ℕ, List, [], ◌∷◌, Option, Some, None, Result, Ok, Err}
+use Rattle.std.specs.Prelude.{◌≡◌, ℕ, List, Option, Some, None, Result, Ok, Err}
 use Rattle.plain_data.specs.declared.memory.NoMemory.{NoMemory}
 use Rattle.sig_model.specs.declared.decl.Decl.{Decl}
 use Rattle.sig_model.specs.declared.ty.Ty.{Ty}
 use Rattle.sig_model.specs.declared.ty.BaseTy.TheVariants as base_ty
 use Rattle.sig_model.specs.PlainTy.{PlainTy, base, no_args, plain_ty}
-use Rattle.sig_model.specs.PlainDecl.{PlainDecl, PlainDecls, PlainParts, no_decls, more_decls, no_parts, inner, member, plain_decls, plain_parts}
+use Rattle.sig_model.specs.PlainDecl.{PlainDecls, PlainParts, no_decls, more_decls, no_parts, inner, member, plain_decls, plain_parts}
 use Rattle.sig_model.specs.Built.{named, class_of}
 use Rattle.rbs_parser.specs.declared.token.Token.{Token}
 use Rattle.rbs_parser.specs.declared.token.Kind.{Kind}

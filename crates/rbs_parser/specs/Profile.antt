@@ -3,12 +3,11 @@ use Rattle.std.specs.Prelude.{◌≡◌, ℕ, Bool, true, false, ◌||◌, List,
 use Rattle.std.specs.List.{IsDistinct, AllByRecursion, starts_with}
 use Rattle.std.specs.Str.{chars}
 use Rattle.names.specs.Places.{same_name, is_among}
-use Rattle.sig_model.specs.declared.place.Place.{Place}
 use Rattle.sig_model.specs.declared.decl.Decl.{Decl}
 use Rattle.sig_model.specs.declared.ty.BaseTy.{BaseTy}
 use Rattle.sig_model.specs.declared.ty.BaseTy.TheVariants as base_ty
 use Rattle.sig_model.specs.PlainTy.{PlainTy, PlainFun, base, name, no_tys, function}
-use Rattle.sig_model.specs.PlainMember.{PlainMember, PlainMethod, method}
+use Rattle.sig_model.specs.PlainMember.{PlainMember, method}
 use Rattle.sig_model.specs.PlainDecl.{PlainDecls, PlainParts, no_decls, more_decls, decl, class, no_parts, inner, member, plain_decls}
 use Rattle.rbs_parser.specs.declared.token.Token.{Token}
 use Rattle.rbs_parser.specs.declared.refused.ParseRefused.{ParseRefused}

@@ -1,6 +1,6 @@
 -- The tokens of signature text.
 use Rattle.std.specs.Prelude.{◌≡◌, ℕ, ◌+◌, Bool, true, false, not, ◌||◌, ◌&&◌, ◌==◌, if◌then◌else◌, List, [], ◌∷◌, codes, encode_utf8_all}
-use Rattle.std.specs.Char.{is_ascii_lowercase, is_ascii_uppercase}
+use Rattle.std.specs.Char.{is_ascii_uppercase}
 use Rattle.names.specs.Places.{same_name, is_among}
 use Rattle.source_text.specs.Characters.{is_blank, is_name_character, starts_word, width, Run}
 use Rattle.rbs_parser.specs.declared.token.Token.{Token}

@@ -56,6 +56,14 @@ pub enum Stage {
     },
 }
 
+/// A class that began at the byte `begin`, behind these parts.
+#[derive(Debug, Drop)]
+pub struct Open {
+    pub begin: u32,
+    pub name: Word,
+    pub parts: Many<Part>,
+}
+
 /// The classes so far, and what is there.
 #[derive(Debug, Drop)]
 pub struct Parser {
@@ -131,14 +139,6 @@ fn outcome(alloc: Global, kind: Kind) -> Result<Option<Ty>, NoMemory>
         Kind::Upper(name) => Ok(Some(named_type(alloc, name)?)),
         _ => Ok(None),
     }
-}
-
-/// A class, while its methods are read.
-#[derive(Debug, Drop)]
-pub struct Open {
-    pub begin: u32,
-    pub name: Word,
-    pub parts: Many<Part>,
 }
 
 /// In a class, with how far a method is read.

@@ -1,9 +1,5 @@
-use Rattle.std.proofs.Common.{ℕ, List, ◌≡◌, arith, refl, sym, ◌∙◌, ap, subst, [], length, drop}
-use Rattle.std.specs.Prelude.{IsUtf8, IfOk, Result, Ok, Err, Option}
-use Rattle.std.specs.Str.{chars}
-use Rattle.rbs_parser.specs.Lexer.{AnswersTokens, reading}
-use Rattle.rbs_parser.specs.declared.lexer.Mode.TheVariants as mode
-use Rattle.rbs_parser.proofs.LexerMain.{Reading, reading_none, reading_fits, reading_more, reading_stops, reading_all, if_ok}
+use Rattle.std.proofs.Common.{arith, sym, ◌∙◌}
+use Rattle.rbs_parser.proofs.LexerMain.{reading_none, reading_fits, reading_more, reading_stops, reading_all, if_ok}
 use Rattle.std.proofs.lemmas.List.{drop_all}
 use Rattle.rbs_parser.proofs.lexer.tokens.Goals as goal
 

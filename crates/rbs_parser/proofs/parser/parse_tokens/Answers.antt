@@ -1,8 +1,7 @@
-use Rattle.std.proofs.Common.{◌≡◌, ◌+◌, ◌<◌, ◌∙◌, sym, subst, List, length, get_or, arith}
+use Rattle.std.proofs.Common.{◌≡◌, ◌<◌, ◌∙◌, sym, subst, List, length, get_or, arith}
 use Rattle.std.proofs.lemmas.Iterator.Adapters.{YieldsList-from_vec}
 use Rattle.std.proofs.lemmas.Iterator.Consumers.{YieldsList-turn, YieldsList-end}
 use Rattle.std.proofs.lemmas.List.{length_push, drop_all}
-use Rattle.std.specs.Option.{option_map}
 use Rattle.rbs_parser.specs.declared.token.Token.{Token}
 use Rattle.rbs_parser.specs.Parser.{state}
 use Rattle.rbs_parser.proofs.ParserMain.{Parsing, parsing_none, parsing_more, parsing_stops, parsing_all}

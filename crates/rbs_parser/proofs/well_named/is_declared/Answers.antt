@@ -1,5 +1,3 @@
-use Rattle.std.proofs.Common.{◌≡◌, []}
-use Rattle.rbs_parser.specs.Profile.{IsDeclared}
 use Rattle.sig_model.specs.PlainTyLaws.{plain_ty-Name}
 use Rattle.rbs_parser.proofs.Members.{bare_declared}
 use Rattle.rbs_parser.proofs.well_named.is_declared.Goals as goal
