@@ -4,9 +4,9 @@ ghost use Rattle.std.specs.Prelude.{◌≡◌, ◌+◌, ◌^◌, ◌<◌, true};
 ghost use Rattle.ruby_tokens.specs.Machine as machine;
 ghost use Rattle.ruby_tokens.specs.Does.{Does};
 
+use crate::appended::{letter, with_token};
 use crate::mode::{Lexer, Mode};
 use crate::numbers::digit_value;
-use crate::put::{letter, with_token};
 use crate::refused::Refused;
 use crate::starts::{Sort, sort_of};
 use crate::token::{Kind, Token};

@@ -6,10 +6,10 @@ ghost use Rattle.ruby_tokens.specs.Machine as machine;
 ghost use Rattle.ruby_tokens.specs.Does.{Does};
 ghost use Rattle.ruby_tokens.specs.Words.{keywords, begins_upper, word_kind};
 
+use crate::appended::with_character;
 use crate::begin::behind;
 use crate::listed::is_listed;
 use crate::mode::{Lexer, Mode};
-use crate::put::with_character;
 use crate::refused::Refused;
 use crate::token::{Kind, Token};
 use plain_data::{Many, Word};
