@@ -4,7 +4,7 @@ ghost use Rattle.std.specs.Prelude.{◌≡◌, ◌+◌, ◌^◌, ◌<◌, Some, 
 ghost use Rattle.ruby_tokens.specs.Machine as machine;
 ghost use Rattle.ruby_tokens.specs.Does.{Does, IsFit};
 
-use crate::appended::{letter, with_token};
+use crate::appended::{with_character, with_token};
 use crate::mode::{Lexer, Mode};
 use crate::numbers::first_digit;
 use crate::refused::Refused;
@@ -78,30 +78,19 @@ fn begin_by(
     ensures { Does (machine.begin_by sort tokens blank at c) result }
 {
     let start = at;
+    let text = Word::new(alloc);
     match sort {
         Sort::Blank => stands(tokens, between(blank)),
         Sort::Comment => stands(tokens, begin_comment(alloc, blank, at)),
         Sort::Word => {
-            let text = letter(alloc, c)?;
+            let text = with_character(text, c)?;
             stands(tokens, Mode::Word { start, text })
         }
         Sort::Zero => stands(tokens, Mode::Zero { start }),
         Sort::Digit => first_digit(tokens, start, false, c),
         Sort::Minus => stands(tokens, Mode::Minus { start }),
-        Sort::Single => stands(
-            tokens,
-            Mode::Single {
-                start,
-                text: Word::new(alloc),
-            },
-        ),
-        Sort::Double => stands(
-            tokens,
-            Mode::Double {
-                start,
-                text: Word::new(alloc),
-            },
-        ),
+        Sort::Single => stands(tokens, Mode::Single { start, text }),
+        Sort::Double => stands(tokens, Mode::Double { start, text }),
         Sort::Symbol => stands(tokens, Mode::Colon { start }),
         Sort::Open => one(tokens, Kind::Open, at, Mode::InLine),
         Sort::Close => one(tokens, Kind::Close, at, Mode::InLine),
