@@ -1,12 +1,12 @@
 //! Where a token may begin.
 
-ghost use Rattle.std.specs.Prelude.{◌≡◌, ◌+◌, ◌^◌, ◌<◌, true};
+ghost use Rattle.std.specs.Prelude.{◌≡◌, ◌+◌, ◌^◌, ◌<◌, Some, true};
 ghost use Rattle.ruby_tokens.specs.Machine as machine;
-ghost use Rattle.ruby_tokens.specs.Does.{Does};
+ghost use Rattle.ruby_tokens.specs.Does.{Does, IsFit};
 
+use crate::appended::{with_character, with_token};
 use crate::mode::{Lexer, Mode};
-use crate::numbers::digit_value;
-use crate::put::{letter, with_token};
+use crate::numbers::first_digit;
 use crate::refused::Refused;
 use crate::starts::{Sort, sort_of};
 use crate::token::{Kind, Token};
@@ -14,13 +14,15 @@ use plain_data::{Many, Word};
 use std::alloc::Global;
 
 fn between(blank: bool) -> Mode
-    ensures { result ≡ machine.between blank }
+    ensures value { result ≡ machine.between blank }
+    ensures fit { IsFit result }
 {
     if blank { Mode::LineStart } else { Mode::InLine }
 }
 
 fn begin_comment(alloc: Global, blank: bool, at: u32) -> Mode
-    ensures { result ≡ machine.begin_comment blank at }
+    ensures value { result ≡ machine.begin_comment blank at }
+    ensures fit { IsFit result }
 {
     if blank {
         Mode::Note {
@@ -30,6 +32,23 @@ fn begin_comment(alloc: Global, blank: bool, at: u32) -> Mode
     } else {
         Mode::Comment
     }
+}
+
+/// The lexer in this mode.
+fn stands(tokens: Many<Token>, mode: Mode) -> Result<Lexer, Refused>
+    requires { IsFit mode }
+    ensures { Does (Some (machine.lexer tokens mode)) result }
+{
+    Ok(Lexer { tokens, mode })
+}
+
+/// A token of one character.
+fn one(tokens: Many<Token>, kind: Kind, at: u32, mode: Mode) -> Result<Lexer, Refused>
+    requires fits { at + 1 < 2 ^ 32 }
+    requires fit { IsFit mode }
+    ensures { Does (Some (machine.lexer (machine.with_token tokens kind at (at + 1)) mode)) result }
+{
+    stands(with_token(tokens, kind, at, at + 1)?, mode)
 }
 
 /// The character `c` stands at `at`, where a token may begin; `blank` says that only blanks stand
@@ -58,87 +77,25 @@ fn begin_by(
     requires { at + 1 < 2 ^ 32 }
     ensures { Does (machine.begin_by sort tokens blank at c) result }
 {
+    let start = at;
+    let text = Word::new(alloc);
     match sort {
-        Sort::Blank => Ok(Lexer {
-            tokens,
-            mode: between(blank),
-        }),
-        Sort::Comment => Ok(Lexer {
-            tokens,
-            mode: begin_comment(alloc, blank, at),
-        }),
+        Sort::Blank => stands(tokens, between(blank)),
+        Sort::Comment => stands(tokens, begin_comment(alloc, blank, at)),
         Sort::Word => {
-            let text = letter(alloc, c)?;
-            Ok(Lexer {
-                tokens,
-                mode: Mode::Word { start: at, text },
-            })
+            let text = with_character(text, c)?;
+            stands(tokens, Mode::Word { start, text })
         }
-        Sort::Zero => Ok(Lexer {
-            tokens,
-            mode: Mode::Zero { start: at },
-        }),
-        Sort::Digit => {
-            let magnitude = digit_value(c);
-            Ok(Lexer {
-                tokens,
-                mode: Mode::Digits {
-                    start: at,
-                    negative: false,
-                    magnitude,
-                },
-            })
-        }
-        Sort::Minus => Ok(Lexer {
-            tokens,
-            mode: Mode::Minus { start: at },
-        }),
-        Sort::Single => Ok(Lexer {
-            tokens,
-            mode: Mode::Single {
-                start: at,
-                text: Word::new(alloc),
-            },
-        }),
-        Sort::Double => Ok(Lexer {
-            tokens,
-            mode: Mode::Double {
-                start: at,
-                text: Word::new(alloc),
-            },
-        }),
-        Sort::Symbol => Ok(Lexer {
-            tokens,
-            mode: Mode::Colon { start: at },
-        }),
-        Sort::Open => {
-            let tokens = with_token(tokens, Kind::Open, at, at + 1)?;
-            Ok(Lexer {
-                tokens,
-                mode: Mode::InLine,
-            })
-        }
-        Sort::Close => {
-            let tokens = with_token(tokens, Kind::Close, at, at + 1)?;
-            Ok(Lexer {
-                tokens,
-                mode: Mode::InLine,
-            })
-        }
-        Sort::Semicolon => {
-            let tokens = with_token(tokens, Kind::Semicolon, at, at + 1)?;
-            Ok(Lexer {
-                tokens,
-                mode: Mode::InLine,
-            })
-        }
-        Sort::Newline => {
-            let tokens = with_token(tokens, Kind::Newline, at, at + 1)?;
-            Ok(Lexer {
-                tokens,
-                mode: Mode::LineStart,
-            })
-        }
+        Sort::Zero => stands(tokens, Mode::Zero { start }),
+        Sort::Digit => first_digit(tokens, start, false, c),
+        Sort::Minus => stands(tokens, Mode::Minus { start }),
+        Sort::Single => stands(tokens, Mode::Single { start, text }),
+        Sort::Double => stands(tokens, Mode::Double { start, text }),
+        Sort::Symbol => stands(tokens, Mode::Colon { start }),
+        Sort::Open => one(tokens, Kind::Open, at, Mode::InLine),
+        Sort::Close => one(tokens, Kind::Close, at, Mode::InLine),
+        Sort::Semicolon => one(tokens, Kind::Semicolon, at, Mode::InLine),
+        Sort::Newline => one(tokens, Kind::Newline, at, Mode::LineStart),
         Sort::Nothing => Err(Refused::NoToken),
     }
 }

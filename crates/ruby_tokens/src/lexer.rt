@@ -4,11 +4,11 @@ ghost use Rattle.std.specs.Prelude.{◌≡◌, ◌+◌, ◌^◌, ◌<◌};
 ghost use Rattle.ruby_tokens.specs.Machine as machine;
 ghost use Rattle.ruby_tokens.specs.Does.{Does, Ends, IsFit};
 
+use crate::appended::{letter, with_token};
 use crate::begin::begin;
 use crate::mode::{Lexer, Mode};
 use crate::notes::{in_comment, in_note, noted};
 use crate::numbers::{in_digits, in_minus, in_underscore, in_zero, integer};
-use crate::put::{letter, with_token};
 use crate::refused::Refused;
 use crate::strings::{in_double, in_double_escape, in_double_hash, in_single, in_single_escape};
 use crate::symbols::{

@@ -1,13 +1,13 @@
 //! The tokens of Ruby text.
 #![tactic(auto)]
 
+mod appended;
 mod begin;
 mod lexer;
 mod listed;
 mod mode;
 mod notes;
 mod numbers;
-mod put;
 mod refused;
 mod starts;
 mod strings;

@@ -7,9 +7,9 @@ ghost use Rattle.std.specs.Option.{option_copied};
 ghost use Rattle.source_text.specs.Characters.{is_blank, is_name_character};
 ghost use Rattle.ruby_tokens.specs.Notes.{skip, after_letters, after_blanks, begins_typed_name, begins_colon, after_mark, is_type_note};
 
+use crate::appended::with_token;
 use crate::begin::begin;
 use crate::mode::{Lexer, Mode};
-use crate::put::with_token;
 use crate::refused::Refused;
 use crate::token::{Kind, Token};
 use plain_data::{Many, NoMemory};

@@ -1,9 +1,10 @@
 //! Integers.
 
-ghost use Rattle.std.specs.Prelude.{◌≡◌, ◌+◌, ◌-◌, ◌^◌, ◌<◌, ◌≤◌};
+ghost use Rattle.std.specs.Prelude.{◌≡◌, ◌+◌, ◌-◌, ◌^◌, ◌<◌, ◌≤◌, Some};
 ghost use Rattle.ruby_tokens.specs.declared.token.Kind.TheVariants as kind;
 ghost use Rattle.ruby_tokens.specs.Machine as machine;
 ghost use Rattle.ruby_tokens.specs.Machine.{limit, signed, goes_on_from_zero};
+ghost use Rattle.ruby_tokens.specs.declared.mode.Mode.TheVariants as mode;
 ghost use Rattle.ruby_tokens.specs.Does.{Does};
 
 use crate::begin::behind;
@@ -14,7 +15,7 @@ use plain_data::Many;
 use std::alloc::Global;
 
 /// What a digit counts.
-pub fn digit_value(c: char) -> u64
+fn digit_value(c: char) -> u64
     ensures { result ≡ c - 48 }
 {
     u64::from((c as u32).saturating_sub(48))
@@ -43,6 +44,25 @@ fn signed(negative: bool, magnitude: u64) -> i64
     } else {
         -((magnitude - 1) as i64) - 1
     }
+}
+
+/// The first digit, which is no zero.
+pub fn first_digit(
+    tokens: Many<Token>,
+    start: u32,
+    negative: bool,
+    c: char,
+) -> Result<Lexer, Refused>
+    ensures { Does (Some (machine.lexer tokens (mode.Digits start negative (c - 48)))) result }
+{
+    Ok(Lexer {
+        tokens,
+        mode: Mode::Digits {
+            start,
+            negative,
+            magnitude: digit_value(c),
+        },
+    })
 }
 
 /// A further digit.
@@ -82,14 +102,7 @@ pub fn in_minus(tokens: Many<Token>, start: u32, c: char) -> Result<Lexer, Refus
     if !c.is_ascii_digit() {
         return Err(Refused::NoToken);
     }
-    Ok(Lexer {
-        tokens,
-        mode: Mode::Digits {
-            start,
-            negative: true,
-            magnitude: digit_value(c),
-        },
-    })
+    first_digit(tokens, start, true, c)
 }
 
 /// Whether the character may not follow a leading zero.

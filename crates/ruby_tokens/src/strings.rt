@@ -5,8 +5,8 @@ ghost use Rattle.ruby_tokens.specs.Machine as machine;
 ghost use Rattle.ruby_tokens.specs.Machine.{escaped};
 ghost use Rattle.ruby_tokens.specs.Does.{Does};
 
+use crate::appended::{with_character, with_token};
 use crate::mode::{Lexer, Mode};
-use crate::put::{with_character, with_token};
 use crate::refused::Refused;
 use crate::token::{Kind, Token};
 use plain_data::{Many, Word};

@@ -6,10 +6,10 @@ ghost use Rattle.ruby_tokens.specs.Literals.{is_mark, is_ending, operators};
 ghost use Rattle.ruby_tokens.specs.Machine as machine;
 ghost use Rattle.ruby_tokens.specs.Does.{Does};
 
+use crate::appended::{letter, with_character};
 use crate::begin::behind;
 use crate::listed::is_listed;
 use crate::mode::{Lexer, Mode};
-use crate::put::{letter, with_character};
 use crate::refused::Refused;
 use crate::token::{Kind, Token};
 use plain_data::{Many, Word};

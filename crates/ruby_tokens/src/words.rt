@@ -6,68 +6,67 @@ ghost use Rattle.ruby_tokens.specs.Machine as machine;
 ghost use Rattle.ruby_tokens.specs.Does.{Does};
 ghost use Rattle.ruby_tokens.specs.Words.{keywords, begins_upper, word_kind};
 
+use crate::appended::with_character;
 use crate::begin::behind;
 use crate::listed::is_listed;
 use crate::mode::{Lexer, Mode};
-use crate::put::with_character;
 use crate::refused::Refused;
 use crate::token::{Kind, Token};
 use plain_data::{Many, Word};
 use source_text::is_name_character;
 use std::alloc::Global;
 
-/// Whether the word is no name, beside `class`, `def`, `end` and `nil`.
+/// The words that are no name, beside `class`, `def`, `end` and `nil`.
+const KEYWORDS: [&str; 43] = [
+    "module",
+    "alias",
+    "if",
+    "unless",
+    "elsif",
+    "else",
+    "then",
+    "while",
+    "do",
+    "return",
+    "break",
+    "next",
+    "yield",
+    "super",
+    "self",
+    "true",
+    "false",
+    "private",
+    "public",
+    "include",
+    "extend",
+    "prepend",
+    "attr_reader",
+    "attr_writer",
+    "attr_accessor",
+    "case",
+    "for",
+    "until",
+    "begin",
+    "rescue",
+    "ensure",
+    "retry",
+    "redo",
+    "undef",
+    "and",
+    "or",
+    "not",
+    "BEGIN",
+    "END",
+    "__FILE__",
+    "__LINE__",
+    "__method__",
+    "__END__",
+];
+
 fn is_keyword(word: &str) -> bool
     ensures { result ≡ is_among word.now keywords }
 {
-    is_listed(
-        word,
-        &[
-            "module",
-            "alias",
-            "if",
-            "unless",
-            "elsif",
-            "else",
-            "then",
-            "while",
-            "do",
-            "return",
-            "break",
-            "next",
-            "yield",
-            "super",
-            "self",
-            "true",
-            "false",
-            "private",
-            "public",
-            "include",
-            "extend",
-            "prepend",
-            "attr_reader",
-            "attr_writer",
-            "attr_accessor",
-            "case",
-            "for",
-            "until",
-            "begin",
-            "rescue",
-            "ensure",
-            "retry",
-            "redo",
-            "undef",
-            "and",
-            "or",
-            "not",
-            "BEGIN",
-            "END",
-            "__FILE__",
-            "__LINE__",
-            "__method__",
-            "__END__",
-        ],
-    )
+    is_listed(word, &KEYWORDS)
 }
 
 fn begins_upper(word: &str) -> bool

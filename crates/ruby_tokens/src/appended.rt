@@ -1,4 +1,4 @@
-//! Steps that several kinds of token share.
+//! Tokens and texts with one more at the end.
 
 ghost use Rattle.std.specs.Prelude.{◌≡◌, ◌++◌, encode_utf8, IfOk};
 ghost use Rattle.ruby_tokens.specs.Machine.{with_token};
