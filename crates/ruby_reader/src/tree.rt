@@ -1,4 +1,4 @@
-//! What a Ruby text of the profile says: classes, and methods whose body is one literal.
+//! What a Ruby text of the profile says: classes with their methods, and the statements behind them.
 
 use plain_data::{Many, Word};
 
@@ -11,12 +11,35 @@ pub enum Literal {
     Nil,
 }
 
+/// What has a value.
+#[derive(Debug, Drop)]
+pub enum Expression {
+    Literal(Literal),
+    /// A read of a local or a parameter, by its name.
+    Local(Word),
+}
+
+/// A local's name, and the value that it gets.
+#[derive(Debug, Drop)]
+pub struct Assignment {
+    pub name: Word,
+    pub value: Expression,
+}
+
+/// An item of a method's body or of the main part.
+#[derive(Debug, Drop)]
+pub enum Statement {
+    Assignment(Assignment),
+    Expression(Expression),
+}
+
 /// A method: `start` is the first byte of its `def`.
 #[derive(Debug, Drop)]
 pub struct Definition {
     pub name: Word,
     pub start: u32,
-    pub body: Literal,
+    pub parameters: Many<Word>,
+    pub body: Many<Statement>,
 }
 
 /// A class that a text opens: `start` is the first byte of its `class`.
@@ -25,4 +48,11 @@ pub struct Opening {
     pub name: Word,
     pub start: u32,
     pub definitions: Many<Definition>,
+}
+
+/// A whole text: the classes that it opens, and the statements of its main part.
+#[derive(Debug, Drop)]
+pub struct Program {
+    pub openings: Many<Opening>,
+    pub statements: Many<Statement>,
 }
