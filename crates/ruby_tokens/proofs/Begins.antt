@@ -11,7 +11,7 @@ use Rattle.ruby_tokens.specs.declared.starts.Sort.{Sort}
 use Rattle.ruby_tokens.specs.declared.starts.Sort.TheVariants as sort
 use Rattle.ruby_tokens.specs.Starts.{sort_of}
 use Rattle.ruby_tokens.specs.Literals.{zero_alone, nonzero, plus, minus}
-use Rattle.ruby_tokens.specs.Tokens.{Lexes, lex_word, lex_integer, lex_single, lex_double, lex_symbol, lex_open, lex_close, lex_semicolon, lex_newline, is_in_line, Before, blank_line, in_line, after, Divides, gap, note, comment, token}
+use Rattle.ruby_tokens.specs.Tokens.{Lexes, lex_word, lex_integer, lex_single, lex_double, lex_symbol, lex_open, lex_close, lex_comma, lex_equals, lex_semicolon, lex_newline, is_in_line, Before, blank_line, in_line, after, Divides, gap, note, comment, token}
 use Rattle.ruby_tokens.specs.Notes.{is_type_note}
 use Rattle.ruby_tokens.specs.Machine.{with_token, begin_by, begin, limit}
 use Rattle.ruby_tokens.proofs.Characters.{one_byte, sort_blank, digit_ascii, width_more, digit_small}
@@ -111,6 +111,8 @@ module _ (tokens : List Token) (at : ℕ) (cs : List ℕ) where
   by_sort blank c sort.Symbol t = subst (BySort blank sort.Symbol) (sym t) (λ us f. (us, refl, begins (before_of blank) (mode.Colon at) 58 (begins_symbol cs at) f))
   by_sort blank c sort.Open t = subst (BySort blank sort.Open) (sym t) (λ us d. one (before_of blank) kind.Open 40 (one_byte 40 refl) lex_open d)
   by_sort blank c sort.Close t = subst (BySort blank sort.Close) (sym t) (λ us d. one (before_of blank) kind.Close 41 (one_byte 41 refl) lex_close d)
+  by_sort blank c sort.Comma t = subst (BySort blank sort.Comma) (sym t) (λ us d. one (before_of blank) kind.Comma 44 (one_byte 44 refl) lex_comma d)
+  by_sort blank c sort.Equals t = subst (BySort blank sort.Equals) (sym t) (λ us d. one (before_of blank) kind.Equals 61 (one_byte 61 refl) lex_equals d)
   by_sort blank c sort.Semicolon t = subst (BySort blank sort.Semicolon) (sym t) (λ us d. one (before_of blank) kind.Semicolon 59 (one_byte 59 refl) lex_semicolon d)
   by_sort blank c sort.Newline t = subst (BySort blank sort.Newline) (sym t) (λ us d. one (before_of blank) kind.Newline 10 (one_byte 10 refl) lex_newline d)
 

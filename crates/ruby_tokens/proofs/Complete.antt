@@ -13,7 +13,7 @@ use Rattle.ruby_tokens.specs.declared.mode.Mode.TheVariants as mode
 use Rattle.ruby_tokens.specs.declared.mode.Lexer.{Lexer}
 use Rattle.ruby_tokens.specs.Words.{word_kind, keywords, begins_upper}
 use Rattle.ruby_tokens.specs.Literals.{IsInteger, plus, minus, zero_alone, nonzero}
-use Rattle.ruby_tokens.specs.Tokens.{Lexes, lex_word, lex_integer, lex_single, lex_double, lex_symbol, lex_open, lex_close, lex_semicolon, lex_newline, IsTypeNote, Before, blank_line, in_line, after, is_in_line, Divides, ended, gap, note, comment, token}
+use Rattle.ruby_tokens.specs.Tokens.{Lexes, lex_word, lex_integer, lex_single, lex_double, lex_symbol, lex_open, lex_close, lex_comma, lex_equals, lex_semicolon, lex_newline, IsTypeNote, Before, blank_line, in_line, after, is_in_line, Divides, ended, gap, note, comment, token}
 use Rattle.ruby_tokens.specs.Notes.{is_type_note}
 use Rattle.ruby_tokens.specs.Machine.{step, lexer, with_token}
 use Rattle.ruby_tokens.specs.Reads.{reads}
@@ -108,6 +108,8 @@ module _ (tokens : List Token) (b : Before) where
       ∙ symbol_read tokens at (at + length (encode_utf8 58)) m d (omega (arith, one_byte 58 refl, f))
   lexes_read at m (lex_open {rest = rest}) f = mark_read kind.Open rest at 40 m mode.InLine (leads at 40 (lexer (with_token tokens kind.Open at (at + 1)) mode.InLine) refl refl) (one_byte 40 refl) f
   lexes_read at m (lex_close {rest = rest}) f = mark_read kind.Close rest at 41 m mode.InLine (leads at 41 (lexer (with_token tokens kind.Close at (at + 1)) mode.InLine) refl refl) (one_byte 41 refl) f
+  lexes_read at m (lex_comma {rest = rest}) f = mark_read kind.Comma rest at 44 m mode.InLine (leads at 44 (lexer (with_token tokens kind.Comma at (at + 1)) mode.InLine) refl refl) (one_byte 44 refl) f
+  lexes_read at m (lex_equals {rest = rest}) f = mark_read kind.Equals rest at 61 m mode.InLine (leads at 61 (lexer (with_token tokens kind.Equals at (at + 1)) mode.InLine) refl refl) (one_byte 61 refl) f
   lexes_read at m (lex_semicolon {rest = rest}) f = mark_read kind.Semicolon rest at 59 m mode.InLine (leads at 59 (lexer (with_token tokens kind.Semicolon at (at + 1)) mode.InLine) refl refl) (one_byte 59 refl) f
   lexes_read at m (lex_newline {rest = rest}) f = mark_read kind.Newline rest at 10 m mode.LineStart (leads at 10 (lexer (with_token tokens kind.Newline at (at + 1)) mode.LineStart) refl refl) (one_byte 10 refl) f
 

@@ -18,6 +18,8 @@ pub data Lexes : Kind → ℕ → List ℕ → List ℕ → Type 0 where
   lex_symbol : {n : ℕ} {v cs rest : List ℕ} → IsSymbol v n cs rest → Lexes (kind.Symbol (encode_utf8_all v)) (n + 1) (58 ∷ cs) rest
   lex_open : {rest : List ℕ} → Lexes kind.Open 1 (40 ∷ rest) rest
   lex_close : {rest : List ℕ} → Lexes kind.Close 1 (41 ∷ rest) rest
+  lex_comma : {rest : List ℕ} → Lexes kind.Comma 1 (44 ∷ rest) rest
+  lex_equals : {rest : List ℕ} → Lexes kind.Equals 1 (61 ∷ rest) rest
   lex_semicolon : {rest : List ℕ} → Lexes kind.Semicolon 1 (59 ∷ rest) rest
   lex_newline : {rest : List ℕ} → Lexes kind.Newline 1 (10 ∷ rest) rest
 

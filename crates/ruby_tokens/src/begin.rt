@@ -94,6 +94,8 @@ fn begin_by(
         Sort::Symbol => stands(tokens, Mode::Colon { start }),
         Sort::Open => one(tokens, Kind::Open, at, Mode::InLine),
         Sort::Close => one(tokens, Kind::Close, at, Mode::InLine),
+        Sort::Comma => one(tokens, Kind::Comma, at, Mode::InLine),
+        Sort::Equals => one(tokens, Kind::Equals, at, Mode::InLine),
         Sort::Semicolon => one(tokens, Kind::Semicolon, at, Mode::InLine),
         Sort::Newline => one(tokens, Kind::Newline, at, Mode::LineStart),
         Sort::Nothing => Err(Refused::NoToken),

@@ -26,6 +26,8 @@ fn shown(alloc: Global, text: &[u8]) -> Result<Option<String>, Fail>
             Kind::Symbol(word) => format!(in alloc; "symbol {}", word.as_str())?,
             Kind::Open => format!(in alloc; "(")?,
             Kind::Close => format!(in alloc; ")")?,
+            Kind::Comma => format!(in alloc; ",")?,
+            Kind::Equals => format!(in alloc; "=")?,
             Kind::Semicolon => format!(in alloc; ";")?,
             Kind::Newline => format!(in alloc; "newline")?,
             Kind::TypeNote => format!(in alloc; "note")?,
@@ -87,7 +89,7 @@ fn refused(rt: HostRuntime) -> Result<(), Fail> {
 #[test]
 fn found(rt: HostRuntime) -> Result<(), Fail> {
     let alloc = rt.alloc();
-    let texts: [(&str, &str); 20] = [
+    let texts: [(&str, &str); 22] = [
         ("9223372036854775807", "9223372036854775807 0-19, "),
         ("-9223372036854775808", "-9223372036854775808 0-20, "),
         ("9_0", "90 0-3, "),
@@ -107,6 +109,8 @@ fn found(rt: HostRuntime) -> Result<(), Fail> {
         ("a # b", "name a 0-1, "),
         ("'a\n\u{e9}'", "text a\n\u{e9} 0-6, "),
         ("a\u{e9}b", "name a\u{e9}b 0-4, "),
+        ("a,\n:b", "name a 0-1, , 1-2, newline 2-3, symbol b 3-5, "),
+        ("x==-1", "name x 0-1, = 1-2, = 2-3, -1 3-5, "),
         ("", ""),
     ];
     for (text, expected) in texts {

@@ -21,6 +21,8 @@ pub enum Kind {
     Symbol(Word),
     Open,
     Close,
+    Comma,
+    Equals,
     Semicolon,
     Newline,
     /// A comment on a line of its own that gives a local its type: `# @type var x: T`.
