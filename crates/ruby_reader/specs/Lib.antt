@@ -1,5 +1,7 @@
 pub mod Grammar
-pub mod BodyMachine
+pub mod Scopes
+pub mod ListMachine
+pub mod ParametersMachine
 pub mod MethodMachine
 pub mod ClassMachine
 pub mod FileMachine

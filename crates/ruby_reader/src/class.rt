@@ -66,13 +66,14 @@ fn between_methods(
 }
 
 fn in_method(
+    alloc: Global,
     opening: Opening,
     method: MethodReader,
     token: &Token,
 ) -> Result<Option<Progress<ClassReader, Opening>>, NoMemory>
     ensures { IfOk result (λ o. o ≡ machine.in_method opening method token.now) }
 {
-    match method.next(token)? {
+    match method.next(alloc, token)? {
         None => Ok(None),
         Some(Progress::Reading(method)) => {
             Ok(Some(Progress::Reading(ClassReader::Method(opening, method))))
@@ -108,7 +109,7 @@ impl ClassReader {
         match self {
             ClassReader::Class(start) => after_class(alloc, start, &token.kind),
             ClassReader::Between(opening, turn) => Ok(between_methods(opening, turn, token)),
-            ClassReader::Method(opening, method) => in_method(opening, method, token),
+            ClassReader::Method(opening, method) => in_method(alloc, opening, method, token),
         }
     }
 }

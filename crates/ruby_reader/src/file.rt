@@ -1,12 +1,13 @@
-//! The classes of a text.
+//! The classes of a text, and the statements behind them.
 
 ghost use Rattle.std.specs.Prelude.{◌≡◌, IfOk};
 ghost use Rattle.ruby_reader.specs.FileMachine as machine;
-ghost use Rattle.ruby_reader.specs.Answers.{Opened};
+ghost use Rattle.ruby_reader.specs.Answers.{Written};
 
 use crate::class::ClassReader;
+use crate::list::ListReader;
 use crate::progress::{Progress, Turn};
-use crate::tree::Opening;
+use crate::tree::{Opening, Program};
 use plain_data::{Many, NoMemory};
 use ruby_tokens::{Kind, Token};
 use std::alloc::Global;
@@ -14,9 +15,11 @@ use std::alloc::Global;
 /// Where a text was read up to.
 #[derive(Debug, Drop)]
 pub enum Place {
-    /// In front of a class or the end of the text.
+    /// In front of a class, the main part or the end of the text.
     Between(Turn),
     Class(ClassReader),
+    /// Behind the first token of a statement.
+    Main(ListReader),
 }
 
 /// A text that is being read, with the classes that were read so far.
@@ -26,22 +29,33 @@ pub struct FileReader {
     pub place: Place,
 }
 
-fn between_classes(openings: Many<Opening>, turn: Turn, token: &Token) -> Option<FileReader>
-    ensures { result ≡ machine.between_classes openings turn token.now.kind token.now.start }
+fn begin_class(openings: Many<Opening>, turn: Turn, start: u32) -> Option<FileReader>
+    ensures { result ≡ machine.begin_class openings turn start }
+{
+    match turn {
+        Turn::Free => Some(FileReader {
+            openings,
+            place: Place::Class(ClassReader::Class(start)),
+        }),
+        Turn::Taken => None,
+    }
+}
+
+fn between_classes(
+    alloc: Global,
+    openings: Many<Opening>,
+    turn: Turn,
+    token: &Token,
+) -> Result<Option<FileReader>, NoMemory>
+    ensures { IfOk result (λ o. o ≡ machine.between_classes openings turn token.now) }
 {
     match &token.kind {
-        Kind::Newline | Kind::Semicolon => Some(FileReader {
+        Kind::Newline | Kind::Semicolon => Ok(Some(FileReader {
             openings,
             place: Place::Between(Turn::Free),
-        }),
-        Kind::Class => match turn {
-            Turn::Free => Some(FileReader {
-                openings,
-                place: Place::Class(ClassReader::Class(token.start)),
-            }),
-            Turn::Taken => None,
-        },
-        _ => None,
+        })),
+        Kind::Class => Ok(begin_class(openings, turn, token.start)),
+        _ => in_main(openings, ListReader::new(alloc, turn), token),
     }
 }
 
@@ -70,6 +84,22 @@ fn in_class(
     }
 }
 
+fn in_main(
+    openings: Many<Opening>,
+    statements: ListReader,
+    token: &Token,
+) -> Result<Option<FileReader>, NoMemory>
+    ensures { IfOk result (λ o. o ≡ machine.in_main openings statements token.now) }
+{
+    match statements.next(token)? {
+        None => Ok(None),
+        Some(statements) => Ok(Some(FileReader {
+            openings,
+            place: Place::Main(statements),
+        })),
+    }
+}
+
 impl FileReader {
     /// In front of a text.
     pub fn new(alloc: Global) -> FileReader
@@ -87,29 +117,37 @@ impl FileReader {
     {
         let FileReader { openings, place } = self;
         match place {
-            Place::Between(turn) => Ok(between_classes(openings, turn, token)),
+            Place::Between(turn) => between_classes(alloc, openings, turn, token),
             Place::Class(class) => in_class(alloc, openings, class, token),
+            Place::Main(statements) => in_main(openings, statements, token),
         }
     }
 
-    /// The classes, if the text may end here.
-    pub fn finish(self) -> Option<Many<Opening>>
-        ensures { result ≡ machine.final self }
+    /// The program, if the text may end here.
+    pub fn finish(self, alloc: Global) -> Result<Option<Program>, NoMemory>
+        ensures { IfOk result (λ o. o ≡ machine.final self) }
     {
         let FileReader { openings, place } = self;
         match place {
-            Place::Between(_) => Some(openings),
-            Place::Class(_) => None,
+            Place::Between(_) => Ok(Some(Program {
+                openings,
+                statements: Many::new(alloc),
+            })),
+            Place::Class(_) => Ok(None),
+            Place::Main(statements) => match statements.finish()? {
+                None => Ok(None),
+                Some(statements) => Ok(Some(Program {
+                    openings,
+                    statements,
+                })),
+            },
         }
     }
 }
 
-/// The classes that all of the tokens open, or none where they are no text of the profile.
-pub(crate) fn openings_of(
-    alloc: Global,
-    tokens: &[Token],
-) -> Result<Option<Many<Opening>>, NoMemory>
-    ensures { IfOk result (Opened tokens.now) }
+/// The program that all of the tokens write, or none where they are no text of the profile.
+pub(crate) fn program_of(alloc: Global, tokens: &[Token]) -> Result<Option<Program>, NoMemory>
+    ensures { IfOk result (Written tokens.now) }
 {
     let mut reader = FileReader::new(alloc);
     for token in tokens {
@@ -118,5 +156,5 @@ pub(crate) fn openings_of(
             None => return Ok(None),
         }
     }
-    Ok(reader.finish())
+    reader.finish(alloc)
 }

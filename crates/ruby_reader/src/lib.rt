@@ -1,16 +1,19 @@
-//! Ruby text, read: the classes that it opens, and their methods.
+//! Ruby text, read: the classes that it opens with their methods, and the statements behind them.
 #![tactic(auto)]
 
-mod body;
 mod class;
 mod file;
+mod list;
 mod method;
 mod named;
+mod operand;
+mod parameters;
 mod progress;
+mod scopes;
 #[cfg(test)]
 mod tests;
 mod text;
 mod tree;
 
 pub use text::read;
-pub use tree::{Definition, Literal, Opening};
+pub use tree::{Assignment, Definition, Expression, Literal, Opening, Program, Statement};

@@ -3,13 +3,15 @@
 ghost use Rattle.std.specs.Prelude.{◌≡◌, IfOk};
 ghost use Rattle.ruby_reader.specs.MethodMachine as machine;
 
-use crate::body::BodyReader;
+use crate::list::ListReader;
+use crate::parameters::ParametersReader;
 use crate::progress::{Progress, Turn};
 use crate::tree::Definition;
-use plain_data::{NoMemory, Word};
+use plain_data::{Many, NoMemory, Word};
 use ruby_tokens::{Kind, Token};
+use std::alloc::Global;
 
-/// What stands in front of a method's body: `start` is the first byte of its `def`.
+/// A method's name, and the first byte of its `def`.
 #[derive(Debug, Drop)]
 pub struct Head {
     pub name: Word,
@@ -23,9 +25,9 @@ pub enum MethodReader {
     Def(u32),
     /// Behind the name.
     Named(Head),
-    /// Inside the empty parentheses.
-    Parens(Head),
-    Body(Head, BodyReader),
+    Parameters(Head, ParametersReader),
+    /// Behind the parameters.
+    Body(Head, Many<Word>, ListReader),
 }
 
 fn after_def(
@@ -44,59 +46,101 @@ fn after_def(
 }
 
 fn after_name(
+    alloc: Global,
     head: Head,
     token: &Token,
 ) -> Result<Option<Progress<MethodReader, Definition>>, NoMemory>
     ensures { IfOk result (λ o. o ≡ machine.after_name head token.now) }
 {
     match &token.kind {
-        Kind::Open => Ok(Some(Progress::Reading(MethodReader::Parens(head)))),
-        _ => in_body(head, BodyReader::Before(Turn::Taken), token),
+        Kind::Open => Ok(Some(Progress::Reading(MethodReader::Parameters(
+            head,
+            ParametersReader::new(alloc),
+        )))),
+        _ => in_body(
+            head,
+            Many::new(alloc),
+            ListReader::new(alloc, Turn::Taken),
+            token,
+        ),
     }
 }
 
-fn in_parens(head: Head, kind: &Kind) -> Option<Progress<MethodReader, Definition>>
-    ensures { result ≡ machine.in_parens head kind.now }
+fn in_parameters(
+    alloc: Global,
+    head: Head,
+    parameters: ParametersReader,
+    token: &Token,
+) -> Result<Option<Progress<MethodReader, Definition>>, NoMemory>
+    ensures { IfOk result (λ o. o ≡ machine.in_parameters head parameters token.now) }
 {
-    match kind {
-        Kind::Close => Some(Progress::Reading(MethodReader::Body(
+    match parameters.next(token)? {
+        None => Ok(None),
+        Some(Progress::Reading(parameters)) => Ok(Some(Progress::Reading(MethodReader::Parameters(
+            head, parameters,
+        )))),
+        Some(Progress::Read(names)) => Ok(Some(Progress::Reading(MethodReader::Body(
             head,
-            BodyReader::Before(Turn::Free),
-        ))),
-        Kind::Newline | Kind::TypeNote => Some(Progress::Reading(MethodReader::Parens(head))),
-        _ => None,
+            names,
+            ListReader::new(alloc, Turn::Free),
+        )))),
+    }
+}
+
+fn end_body(
+    head: Head,
+    parameters: Many<Word>,
+    body: ListReader,
+) -> Result<Option<Progress<MethodReader, Definition>>, NoMemory>
+    ensures { IfOk result (λ o. o ≡ machine.end_body head parameters body) }
+{
+    match body.finish()? {
+        None => Ok(None),
+        Some(body) => {
+            let Head { name, start } = head;
+            Ok(Some(Progress::Read(Definition {
+                name,
+                start,
+                parameters,
+                body,
+            })))
+        }
     }
 }
 
 fn in_body(
     head: Head,
-    body: BodyReader,
+    parameters: Many<Word>,
+    body: ListReader,
     token: &Token,
 ) -> Result<Option<Progress<MethodReader, Definition>>, NoMemory>
-    ensures { IfOk result (λ o. o ≡ machine.in_body head body token.now) }
+    ensures { IfOk result (λ o. o ≡ machine.in_body head parameters body token.now) }
 {
-    match body.next(token)? {
-        None => Ok(None),
-        Some(Progress::Reading(body)) => {
-            Ok(Some(Progress::Reading(MethodReader::Body(head, body))))
-        }
-        Some(Progress::Read(body)) => {
-            let Head { name, start } = head;
-            Ok(Some(Progress::Read(Definition { name, start, body })))
-        }
+    match &token.kind {
+        Kind::End => end_body(head, parameters, body),
+        _ => match body.next(token)? {
+            None => Ok(None),
+            Some(body) => Ok(Some(Progress::Reading(MethodReader::Body(head, parameters, body)))),
+        },
     }
 }
 
 impl MethodReader {
     /// Takes the next token, if the method may go on with it.
-    pub fn next(self, token: &Token) -> Result<Option<Progress<MethodReader, Definition>>, NoMemory>
+    pub fn next(
+        self,
+        alloc: Global,
+        token: &Token,
+    ) -> Result<Option<Progress<MethodReader, Definition>>, NoMemory>
         ensures { IfOk result (λ o. o ≡ machine.method_next self token.now) }
     {
         match self {
             MethodReader::Def(start) => after_def(start, &token.kind),
-            MethodReader::Named(head) => after_name(head, token),
-            MethodReader::Parens(head) => Ok(in_parens(head, &token.kind)),
-            MethodReader::Body(head, body) => in_body(head, body, token),
+            MethodReader::Named(head) => after_name(alloc, head, token),
+            MethodReader::Parameters(head, parameters) => {
+                in_parameters(alloc, head, parameters, token)
+            }
+            MethodReader::Body(head, parameters, body) => in_body(head, parameters, body, token),
         }
     }
 }

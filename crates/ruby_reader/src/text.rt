@@ -3,20 +3,28 @@
 ghost use Rattle.std.specs.Prelude.{◌<◌, ◌^◌, length, IfOk};
 ghost use Rattle.ruby_reader.specs.Answers.{Answers};
 
-use crate::file::openings_of;
-use crate::tree::Opening;
-use plain_data::{Many, NoMemory};
+use crate::file::program_of;
+use crate::scopes::has_scopes;
+use crate::tree::Program;
+use plain_data::NoMemory;
 use ruby_tokens::tokens;
 use std::alloc::Global;
 
-/// The classes that a text opens, in the order of the text, or none where the bytes are no text of the
-/// profile. It fails where there is no memory.
-pub fn read(alloc: Global, bytes: &[u8]) -> Result<Option<Many<Opening>>, NoMemory>
+/// The program that a text writes, or none where the bytes are no text of the profile or a local is out of
+/// scope. It fails where there is no memory.
+pub fn read(alloc: Global, bytes: &[u8]) -> Result<Option<Program>, NoMemory>
     requires { length bytes.now < 2 ^ 32 }
     ensures { IfOk result (Answers bytes.now) }
 {
-    match tokens(alloc, bytes)? {
-        Some(tokens) => openings_of(alloc, tokens.as_slice()),
-        None => Ok(None),
+    let Some(tokens) = tokens(alloc, bytes)? else {
+        return Ok(None);
+    };
+    let Some(program) = program_of(alloc, tokens.as_slice())? else {
+        return Ok(None);
+    };
+    if has_scopes(alloc, &program)? {
+        Ok(Some(program))
+    } else {
+        Ok(None)
     }
 }
