@@ -1,5 +1,5 @@
 -- A reader of a method, which takes one token at a time.
-use Rattle.std.specs.Prelude.{ℕ, List, [], ◌∷◌, Option, Some, None}
+use Rattle.std.specs.Prelude.{ℕ, List, [], Option, Some, None}
 use Rattle.ruby_tokens.specs.declared.token.Token.{Token}
 use Rattle.ruby_tokens.specs.declared.token.Kind.{Kind}
 use Rattle.ruby_tokens.specs.declared.token.Kind.TheVariants as kind
