@@ -17,6 +17,15 @@ pub trait Named {
         ensures { result.now ≡ name_of self.now };
 }
 
+/// A word is its own name.
+impl Named for Word {
+    ghost name_of = { λ w. w };
+
+    fn name(&self) -> &Word {
+        self
+    }
+}
+
 /// The names of these items in order, or `None` where two have one name.
 pub fn names_of<T: Named>(alloc: Global, items: &[T]) -> Result<Option<Names>, NoMemory>
     ensures { IfOk result (λ found. MatchOption found (¬ (IsDistinct same_name (map T.name_of items.now)))

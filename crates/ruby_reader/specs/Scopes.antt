@@ -1,8 +1,7 @@
 -- Where locals are in scope: a list of statements reads what its method's parameters or its earlier statements name, and names each local once.
-use Rattle.std.specs.Prelude.{◌≡◌, ℕ, true, false, List, [], ◌∷◌}
+use Rattle.std.specs.Prelude.{◌≡◌, ℕ, true, false, List, [], ◌∷◌, ◌++◌}
 use Rattle.std.specs.List.{IsDistinct, AllByRecursion}
 use Rattle.names.specs.Places.{same_name, is_among}
-use Rattle.ruby_reader.specs.declared.tree.Literal.{Literal}
 use Rattle.ruby_reader.specs.declared.tree.Expression.{Expression}
 use Rattle.ruby_reader.specs.declared.tree.Expression.TheVariants as expression
 use Rattle.ruby_reader.specs.declared.tree.Statement.{Statement}
@@ -12,16 +11,24 @@ use Rattle.ruby_reader.specs.declared.tree.Opening.{Opening}
 use Rattle.ruby_reader.specs.declared.tree.Program.{Program}
 
 -- an expression reads none but these locals
-pub data Reads (locals : List (List ℕ)) : Expression → Type 0 where
-  reads_none : {l : Literal} → Reads locals (expression.Literal l)
-  reads_local : {n : List ℕ} → is_among n locals ≡ true → Reads locals (expression.Local n)
+abbrev pub Reads : List (List ℕ) → Expression → Type 0
+Reads locals (expression.Literal l) = Unit {0}
+Reads locals (expression.Local n) = is_among n locals ≡ true
 
--- behind the statements that name these locals, a list of statements keeps to its scope
-pub data InScope : List (List ℕ) → List Statement → Type 0 where
-  scope_ends : {locals : List (List ℕ)} → InScope locals []
-  scope_reads : {locals : List (List ℕ)} {x : Expression} {ss : List Statement} → Reads locals x → InScope locals ss → InScope locals (statement.Expression x ∷ ss)
-  scope_assigns : {locals : List (List ℕ)} {n : List ℕ} {x : Expression} {ss : List Statement} → Reads locals x → is_among n locals ≡ false → InScope (n ∷ locals) ss
-      → InScope locals (statement.Assignment (record { name = n; value = x }) ∷ ss)
+-- a statement reads these locals, and names none of them again
+abbrev pub Keeps : List (List ℕ) → Statement → Type 0
+Keeps locals (statement.Expression x) = Reads locals x
+Keeps locals (statement.Assignment a) = Reads locals a.value × (is_among a.name locals ≡ false)
+
+-- the locals behind a statement
+abbrev pub locals_behind : List (List ℕ) → Statement → List (List ℕ)
+locals_behind locals (statement.Expression x) = locals
+locals_behind locals (statement.Assignment a) = locals ++ a.name ∷ []
+
+-- each statement keeps to the locals before it
+abbrev pub InScope : List (List ℕ) → List Statement → Type 0
+InScope locals [] = Unit {0}
+InScope locals (s ∷ ss) = Keeps locals s × InScope (locals_behind locals s) ss
 
 -- a method's parameters have different names, and its body keeps to its scope
 pub record HasScope (d : Definition) : Type 0 where
