@@ -1,26 +1,52 @@
-use crate::{Definition, Literal, Opening, read};
+use crate::{Definition, Expression, Literal, Program, Statement, read};
 use std::alloc::Global;
 use std::test::Fail;
 
-fn shown_literal(alloc: Global, literal: &Literal) -> Result<String, Fail> {
-    Ok(match literal {
-        Literal::Int(value) => format!(in alloc; "{value}")?,
-        Literal::Str(value) => format!(in alloc; "'{}'", value.as_str())?,
-        Literal::Sym(name) => format!(in alloc; ":{}", name.as_str())?,
-        Literal::Nil => format!(in alloc; "nil")?,
+fn shown_expression(alloc: Global, expression: &Expression) -> Result<String, Fail> {
+    Ok(match expression {
+        Expression::Literal(Literal::Int(value)) => format!(in alloc; "{value}")?,
+        Expression::Literal(Literal::Str(value)) => format!(in alloc; "'{}'", value.as_str())?,
+        Expression::Literal(Literal::Sym(name)) => format!(in alloc; ":{}", name.as_str())?,
+        Expression::Literal(Literal::Nil) => format!(in alloc; "nil")?,
+        Expression::Local(name) => format!(in alloc; "{}", name.as_str())?,
     })
 }
 
-fn shown_definition(alloc: Global, definition: &Definition) -> Result<String, Fail> {
-    let body = shown_literal(alloc, &definition.body)?;
-    let name = definition.name.as_str();
-    Ok(format!(in alloc; " {name}@{}={body}", definition.start)?)
+/// The statements, each behind a blank.
+fn shown_statements(alloc: Global, statements: &[Statement]) -> Result<String, Fail> {
+    let mut text = String::new(alloc);
+    for statement in statements {
+        text.push(' ')?;
+        let value = match statement {
+            Statement::Assignment(assignment) => {
+                text.push_str(assignment.name.as_str())?;
+                text.push('=')?;
+                &assignment.value
+            }
+            Statement::Expression(expression) => expression,
+        };
+        text.push_str(shown_expression(alloc, value)?.as_str())?;
+    }
+    Ok(text)
 }
 
-/// A line for each class: its name and place, and those of its methods with their literals.
-fn shown(alloc: Global, openings: &[Opening]) -> Result<String, Fail> {
+/// A method's name and place, its parameters and its body.
+fn shown_definition(alloc: Global, definition: &Definition) -> Result<String, Fail> {
+    let name = definition.name.as_str();
+    let mut text = format!(in alloc; " {name}@{}", definition.start)?;
+    for parameter in definition.parameters.as_slice() {
+        text.push(' ')?;
+        text.push_str(parameter.as_str())?;
+    }
+    let body = shown_statements(alloc, definition.body.as_slice())?;
+    text.push_str(format!(in alloc; " {{{} }}", body.as_str())?.as_str())?;
+    Ok(text)
+}
+
+/// A line for each class, and one for the main part.
+fn shown(alloc: Global, program: &Program) -> Result<String, Fail> {
     let mut text = String::new(alloc);
-    for opening in openings {
+    for opening in program.openings.as_slice() {
         let name = opening.name.as_str();
         text.push_str(format!(in alloc; "{name}@{}", opening.start)?.as_str())?;
         for definition in opening.definitions.as_slice() {
@@ -28,80 +54,200 @@ fn shown(alloc: Global, openings: &[Opening]) -> Result<String, Fail> {
         }
         text.push('\n')?;
     }
+    let main = shown_statements(alloc, program.statements.as_slice())?;
+    text.push_str(format!(in alloc; "main{}\n", main.as_str())?.as_str())?;
     Ok(text)
 }
 
-const GOOD: &[u8] =
-    b"# Two classes and more.\nclass A end\n\nclass B; # the rest of a line\n  # @type var x: Integer\n  def f() 1 end;;\n  def minus(\n    # nothing is taken\n    # @type var y: Integer\n  )\n    -12\n  end\n  ; def text;'a b';;end\n\n  def sign() ; :ok\n  end\n  def none\n    # nothing is given\n    nil\n  end end\n;;class C\nend";
+const WHOLE: &[u8] =
+    b"# Two classes and more.\nclass A end\n\nclass B; # the rest of a line\n  # @type var x: Integer\n  def f() 1 end;;\n  def minus(\n    # nothing is taken\n    # @type var y: Integer\n  )\n    -12\n  end\n  ; def text;'a b';;end\n\n  def sign() ; :ok\n  end\n  def none\n    # nothing is given\n    nil\n  end end\n;;class C\nend\n# And the rest.\nx = 1 # a number\nx";
 
 const SHOWN: &str =
-    "A@24\nB@37 f@94=1 minus@112=-12 text@195='a b' sign@218=:ok none@243=nil\nC@295\n";
+    "A@24\nB@37 f@94 { 1 } minus@112 { -12 } text@195 { 'a b' } sign@218 { :ok } none@243 { nil }\nC@295\nmain x=1 x\n";
 
 #[test]
-fn reads_classes_and_methods(rt: HostRuntime) -> Result<(), Fail> {
-    let openings = read(rt.alloc(), GOOD)?.ok_or("no text")?;
-    let text = shown(rt.alloc(), openings.as_slice())?;
+fn reads_a_whole_text(rt: HostRuntime) -> Result<(), Fail> {
+    let program = read(rt.alloc(), WHOLE)?.ok_or("no text")?;
+    let text = shown(rt.alloc(), &program)?;
     assert_eq!(rt; text.as_str(), SHOWN);
     Ok(())
 }
 
+const READ: [(&str, &str); 19] = [
+    ("", "main\n"),
+    ("\n# nothing\n;;", "main\n"),
+    ("nil", "main nil\n"),
+    ("class A\nend\n1\n", "A@0\nmain 1\n"),
+    ("class A end;x = :a;x", "A@0\nmain x=:a x\n"),
+    (";;1;;\n'a';:b\n;nil; ;", "main 1 'a' :b nil\n"),
+    ("x=1\ny=x;y", "main x=1 y=x y\n"),
+    ("x =\n\n # no value yet\n 1\nx", "main x=1 x\n"),
+    (
+        "x = # none\n# @type var y: A\n'b'\ny = x",
+        "main x='b' y=x\n",
+    ),
+    ("class A; def f end; end", "A@0 f@9 { }\nmain\n"),
+    ("class A\ndef f() end\nend", "A@0 f@8 { }\nmain\n"),
+    ("class A\ndef f(\n)\n:a\nend\nend", "A@0 f@8 { :a }\nmain\n"),
+    (
+        "class A\ndef f(a,b) b\nend end",
+        "A@0 f@8 a b { b }\nmain\n",
+    ),
+    (
+        "class A\ndef f(\n a,\n\n b\n)\nend\nend",
+        "A@0 f@8 a b { }\nmain\n",
+    ),
+    (
+        "class A\ndef f( # all\n a, # one\n # @type var b: X\n b\n # @type var c: X\n)b end end",
+        "A@0 f@8 a b { b }\nmain\n",
+    ),
+    (
+        "class A\ndef f(a) x = a; y = x\n y;; end end",
+        "A@0 f@8 a { x=a y=x y }\nmain\n",
+    ),
+    ("class A\ndef f() 1; 2 end\nend", "A@0 f@8 { 1 2 }\nmain\n"),
+    (
+        "class A\ndef f(f) f end\ndef g(f) f end\nend",
+        "A@0 f@8 f { f } g@23 f { f }\nmain\n",
+    ),
+    (
+        "class A\ndef f\nx = 1\nend\nend\nx = 2",
+        "A@0 f@8 { x=1 }\nmain x=2\n",
+    ),
+];
+
 #[test]
-fn reads_an_empty_text(rt: HostRuntime) -> Result<(), Fail> {
-    let openings = read(rt.alloc(), b"\n# nothing\n;;")?.ok_or("no text")?;
-    assert_eq!(rt; openings.len(), 0);
+fn reads_small_texts(rt: HostRuntime) -> Result<(), Fail> {
+    for (text, expected) in READ {
+        assert!(rt; text.len() < 100);
+        let program = read(rt.alloc(), text.as_bytes())?.ok_or("no text")?;
+        assert_eq!(rt; shown(rt.alloc(), &program)?.as_str(), expected);
+    }
     Ok(())
 }
 
-const REFUSED: [(&str, &[u8]); 21] = [
-    ("a missing end of a class", b"class A\ndef f() 1 end\n"),
-    ("a missing end of a method", b"class A\ndef f() 1\nend\n"),
-    (
-        "a body on the line of a bare head",
-        b"class A\ndef f 1 end\nend",
-    ),
-    ("two literals", b"class A\ndef f() 1; 2 end\nend"),
-    (
-        "two literals, nothing between",
-        b"class A\ndef f() 1 2 end\nend",
-    ),
-    ("an empty body", b"class A\ndef f() end\nend"),
-    (
-        "two methods on a line",
-        b"class A; def f() 1 end def g() 2 end end",
-    ),
-    ("two classes on a line", b"class A end class B end"),
+const REFUSED: [(&str, &str); 66] = [
+    ("a missing end of a class", "class A\ndef f() 1 end\n"),
+    ("a missing end of a method", "class A\ndef f() 1\nend\n"),
+    ("an end too many", "class A\nend\nend\n"),
+    ("two classes on a line", "class A end class B end"),
+    ("a class named by a name", "class a\nend"),
+    ("a class in a class", "class A\nclass B\nend\nend"),
+    ("a method outside of a class", "def f() 1 end"),
+    ("a method named by a class", "class A\ndef F() 1 end\nend"),
     (
         "a method on the line of its class",
-        b"class A def f() 1 end end",
+        "class A def f() 1 end end",
     ),
-    ("a statement after the classes", b"class A\nend\n1\n"),
-    ("a statement before the classes", b"nil\nclass A\nend\n"),
-    ("an end too many", b"class A\nend\nend\n"),
+    (
+        "two methods on a line",
+        "class A; def f() 1 end def g() 2 end end",
+    ),
+    ("a statement in a class", "class A\n1\nend"),
+    ("a note at the top", "# @type var x: Integer\nclass A\nend"),
     (
         "parentheses on a line of their own",
-        b"class A\ndef f\n()\n1\nend\nend",
+        "class A\ndef f\n()\n1\nend\nend",
     ),
-    ("a `;` in the parentheses", b"class A\ndef f(;) 1 end\nend"),
+    ("a `;` in the parentheses", "class A\ndef f(;) 1 end\nend"),
+    ("a `;` behind a comma", "class A\ndef f(a,;b) 1 end\nend"),
+    ("a comma and no parameter", "class A\ndef f(,) 1 end\nend"),
+    (
+        "a comma before the parameters",
+        "class A\ndef f(, a) 1 end\nend",
+    ),
+    (
+        "a comma behind the parameters",
+        "class A\ndef f(a,) 1 end\nend",
+    ),
+    ("two commas", "class A\ndef f(a,, b) 1 end\nend"),
+    ("no comma", "class A\ndef f(a b) 1 end\nend"),
+    ("a newline for a comma", "class A\ndef f(a\nb) 1 end\nend"),
+    (
+        "a newline before a comma",
+        "class A\ndef f(a\n, b) 1 end\nend",
+    ),
+    ("a literal as a parameter", "class A\ndef f(1) 1 end\nend"),
+    ("a class as a parameter", "class A\ndef f(B) 1 end\nend"),
+    ("a keyword as a parameter", "class A\ndef f(if) 1 end\nend"),
+    (
+        "a value for a parameter",
+        "class A\ndef f(a = 1) 1 end\nend",
+    ),
+    (
+        "a parameter in two parentheses",
+        "class A\ndef f((a)) 1 end\nend",
+    ),
+    (
+        "a parameter without parentheses",
+        "class A\ndef f a\n1 end\nend",
+    ),
+    (
+        "parentheses that are not closed",
+        "class A\ndef f(a\n1 end\nend",
+    ),
+    (
+        "a body on the line of a bare head",
+        "class A\ndef f 1 end\nend",
+    ),
+    (
+        "two literals, nothing between",
+        "class A\ndef f() 1 2 end\nend",
+    ),
     (
         "a note in a body",
-        b"class A\ndef f\n# @type var x: Integer\n1\nend\nend",
+        "class A\ndef f\n# @type var x: Integer\n1\nend\nend",
     ),
     (
         "a note behind a literal",
-        b"class A\ndef f\n1\n# @type var x: Integer\nend\nend",
+        "class A\ndef f\n1\n# @type var x: Integer\nend\nend",
     ),
-    ("a note at the top", b"# @type var x: Integer\nclass A\nend"),
-    ("a class named by a name", b"class a\nend"),
-    ("a method named by a class", b"class A\ndef F() 1 end\nend"),
-    ("a method outside of a class", b"def f() 1 end"),
-    ("a class in a class", b"class A\nclass B\nend\nend"),
+    ("a keyword in a body", "class A\ndef f() self end\nend"),
+    ("a class as a value", "class A\ndef f() A end\nend"),
+    ("an `=` and no value", "class A\ndef f() x = end\nend"),
+    ("a statement before the classes", "nil\nclass A\nend\n"),
+    ("a class behind a `;`", "1; class A end"),
+    ("a statement on the line of a class", "class A end 1"),
+    ("a method in the main part", "1\ndef f() 1 end"),
+    ("an end in the main part", "1\nend"),
+    ("an end behind a name", "x = 1\nx end"),
+    ("a note in the main part", "x = 1\n# @type var y: A\nx"),
+    ("two statements on a line", "x = 1 x"),
+    ("two names on a line", "x = 1\nx x"),
+    ("a chain of assignments", "x = y = 1"),
+    ("a chain with a name that is known", "y = 1; x = y = 2"),
+    ("an `=` at the end", "x =\n"),
+    ("a `;` for a value", "x = ;1"),
+    ("an `=` on the next line", "x = 1\nx\n= 2"),
+    ("an `=` and no name", "= 1"),
+    ("two `=`", "x == 1"),
+    ("an assignment to a literal", "1 = 2"),
+    ("an assignment to a class", "A = 1"),
+    ("an assignment to a keyword", "self = 1"),
+    ("a keyword as a value", "x = true"),
+    ("an operand in parentheses", "(1)"),
+    ("a comma between statements", "1, 2"),
+    ("a local that nothing names", "x"),
+    ("a local read before its name", "x\nx = 1"),
+    ("a local as its own value", "x = x"),
+    ("a local named twice", "x = 1\nx = 2"),
+    ("a parameter named twice", "class A\ndef f(a, a) 1 end\nend"),
+    (
+        "a parameter assigned to",
+        "class A\ndef f(a) a = 1 end\nend",
+    ),
+    (
+        "a local of another method",
+        "class A\ndef f(a) 1 end\ndef g() a end\nend",
+    ),
+    ("a local of a method", "class A\ndef f() x = 1 end\nend\nx"),
 ];
 
 #[test]
 fn refuses_other_texts(rt: HostRuntime) -> Result<(), Fail> {
     for (what, text) in REFUSED {
         assert!(rt; text.len() < 100);
-        assert!(rt; read(rt.alloc(), text)?.is_none(), "{what}");
+        assert!(rt; read(rt.alloc(), text.as_bytes())?.is_none(), "{what}");
     }
     Ok(())
 }
