@@ -1,4 +1,4 @@
-//! What a statement is made of.
+//! The operands of statements.
 
 ghost use Rattle.std.specs.Prelude.{◌≡◌, IfOk};
 ghost use Rattle.ruby_reader.specs.ListMachine as machine;
