@@ -117,7 +117,7 @@ module _ (file : ℕ) (whole : List Token) where
   -- a type stands behind the parameters
   parameter_at : (decls : PlainDecls) (begin : ℕ) (name : List ℕ) (before : PlainParts) (first : ℕ) (method : List ℕ) (done : PlainTys) (t : PlainTy) (left : List Token)
       → ((tys : PlainTys) (r : PlainTy) (f : ℕ) (ts : List Token) → Rest wanted.Separator tys r f ts left
-          → ClassAt decls begin name (parts_then before (with_method (span file first f) method (unnamed (append_tys done (more_tys t tys))) r no_parts)) ts)
+      → ClassAt decls begin name (parts_then before (with_method (span file first f) method (unnamed (append_tys done (more_tys t tys))) r no_parts)) ts)
       → MethodAt decls begin name before first method (append_tys done (more_tys t no_tys)) wanted.Separator left
   parameter_at decls begin name before first method done t left h = λ tys r f ts rr.
       subst (λ all. ClassAt decls begin name (parts_then before (with_method (span file first f) method (unnamed all) r no_parts)) ts)

@@ -43,13 +43,9 @@ pub enum Progress {
     /// None is begun: `def` or `end` must follow.
     Between,
     /// The name must follow a `def` that began at this byte.
-    Name {
-        first: u32,
-    },
-    Method {
-        method: Heading,
-        wanted: Wanted,
-    },
+    Name { first: u32 },
+    /// The method's type is begun, and this must follow.
+    Method { method: Heading, wanted: Wanted },
 }
 
 /// Where the text stands.
@@ -256,7 +252,8 @@ fn method_ends(
         end,
     };
     let mut class = class;
-    class.parts.push(plain_method_part(alloc, place, name, parameters, ty)?)?;
+    let part = plain_method_part(alloc, place, name, parameters, ty)?;
+    class.parts.push(part)?;
     Ok(with_progress(decls, class, Some(Progress::Between)))
 }
 
