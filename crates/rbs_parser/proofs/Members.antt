@@ -5,7 +5,7 @@ use Rattle.std.specs.Prelude.{◌↔◌, ◌||◌, slice_get, IsTrue}
 use Rattle.std.specs.List.{IsDistinct, AllByRecursion}
 use Rattle.names.specs.Places.{same_name, is_among}
 use Rattle.sig_model.specs.declared.ty.Ty.{Ty}
-use Rattle.sig_model.specs.declared.ty.FunTy as fun_ty
+use Rattle.sig_model.specs.declared.ty.Arg.{Arg}
 use Rattle.sig_model.specs.declared.ty.TypeName.{TypeName}
 use Rattle.sig_model.specs.declared.decl.Vis.{Vis}
 use Rattle.sig_model.specs.declared.decl.MethodTy.{MethodTy}
@@ -13,23 +13,22 @@ use Rattle.sig_model.specs.declared.decl.Member.TheVariants as a_member
 use Rattle.sig_model.specs.declared.decl.Decl.{Decl}
 use Rattle.sig_model.specs.declared.decl.Part.{Part}
 use Rattle.sig_model.specs.PlainTy as plain
-use Rattle.sig_model.specs.PlainTy.{PlainTy, plain_ty, plain_tys, plain_fun}
-use Rattle.sig_model.specs.PlainTyLaws.{plain_fun-out}
+use Rattle.sig_model.specs.PlainTy.{PlainFun, plain_ty, plain_tys, plain_fun, plain_args}
 use Rattle.sig_model.specs.PlainMember.{plain_member}
 use Rattle.sig_model.specs.PlainDecl.{PlainDecls, PlainParts, plain_decl, plain_decls, plain_parts, part_before}
-use Rattle.rbs_parser.specs.Profile.{IsDeclared, IsKnown, IsMethodName, IsWellNamed, HasWellNamed, core_classes, result_classes, result_of, classes_of, method_before, methods_of, class_names}
+use Rattle.rbs_parser.specs.Profile.{AreParameters, HasDeclared, IsDeclared, IsKnown, IsMethodName, IsParameter, IsWellNamed, HasWellNamed, core_classes, value_classes, result_of, classes_of, method_before, methods_of, class_names}
 use Rattle.rbs_parser.specs.WellNamed.{MethodsLeft, ClassesLeft, MethodsOfClasses, AdmitsPart, AdmitsDecl, AdmitsMethods}
 use Rattle.rbs_parser.proofs.LexerMain.{left_at}
 use Rattle.rbs_parser.proofs.Named.{left_is, all_of_map}
 
-pub some_method : (v : Option Vis) (s : Bool) (n : List ℕ) (os : List MethodTy) (o : MethodTy) (behind : List (List ℕ × PlainTy)) → slice_get os 0 ≡ Some o
-    → method_before (plain_member (a_member.Method v s n os)) behind ≡ (n, plain_ty (fun_ty.out-FunTy o.fun).result) ∷ behind
+pub some_method : (v : Option Vis) (s : Bool) (n : List ℕ) (os : List MethodTy) (o : MethodTy) (behind : List (List ℕ × PlainFun)) → slice_get os 0 ≡ Some o
+    → method_before (plain_member (a_member.Method v s n os)) behind ≡ (n, plain_fun o.fun) ∷ behind
 some_method v s n [] o behind e = absurd (cc)
 some_method v s n (m ∷ ms) o behind e =
     let same : m ≡ o = cc in
-    ap (λ t. (n, t) ∷ behind) (ap result_of (plain_fun-out m.fun)) ∙ ap (λ (m : MethodTy). (n, plain_ty (fun_ty.out-FunTy m.fun).result) ∷ behind) same
+    ap (λ (m : MethodTy). (n, plain_fun m.fun) ∷ behind) same
 
-pub none_method : (v : Option Vis) (s : Bool) (n : List ℕ) (os : List MethodTy) (behind : List (List ℕ × PlainTy)) → slice_get os 0 ≡ None → method_before (plain_member (a_member.Method v s n os)) behind ≡ behind
+pub none_method : (v : Option Vis) (s : Bool) (n : List ℕ) (os : List MethodTy) (behind : List (List ℕ × PlainFun)) → slice_get os 0 ≡ None → method_before (plain_member (a_member.Method v s n os)) behind ≡ behind
 none_method v s n [] behind e = refl
 none_method v s n (m ∷ ms) behind e = absurd (cc)
 
@@ -37,6 +36,31 @@ none_method v s n (m ∷ ms) behind e = absurd (cc)
 pub bare_declared : (classes : List (List ℕ)) (n : TypeName) (args : List Ty) → IsDeclared classes (plain.name n (plain_tys args)) → args ≡ []
 bare_declared classes n [] h = refl
 bare_declared classes n (t ∷ ts) h = absurd h
+
+-- the parameters before the index are read
+pub record ArgsRead (classes : List (List ℕ)) (args : List Arg) (i : ℕ) : Type 0 where
+  pub same : AreParameters classes (plain_args args) ↔ AreParameters classes (plain_args (drop i args))
+
+pub args_none : (classes : List (List ℕ)) (args : List Arg) → ArgsRead classes args 0
+args_none classes args = record { same = (λ h. h, λ h. h) }
+
+pub args_more : (classes : List (List ℕ)) (args : List Arg) (i : ℕ) (a : Arg) → ArgsRead classes args i → i < length args → a ≡ get_or args i a
+    → IsParameter classes (plain_ty a.ty) → ArgsRead classes args (i + 1)
+args_more classes args i a r h e p =
+    let left = left_at args i a h e in
+    record {
+      same = (
+        λ m. (subst (λ xs. AreParameters classes (plain_args xs)) left (r.same.0 m)).1,
+        λ m. r.same.1 (subst (λ xs. AreParameters classes (plain_args xs)) (sym left) (p, m)),
+      );
+    }
+
+pub args_stop : (classes : List (List ℕ)) (args : List Arg) (i : ℕ) (a : Arg) → ArgsRead classes args i → i < length args → a ≡ get_or args i a
+    → (IsParameter classes (plain_ty a.ty) → ⊥) → AreParameters classes (plain_args args) → ⊥
+args_stop classes args i a r h e f w = f (subst (λ xs. AreParameters classes (plain_args xs)) (left_at args i a h e) (r.same.0 w)).0
+
+pub args_all : (classes : List (List ℕ)) (args : List Arg) (i : ℕ) → ArgsRead classes args i → length args ≤ i → AreParameters classes (plain_args args)
+args_all classes args i r h = r.same.1 (subst (λ xs. AreParameters classes (plain_args xs)) (sym (drop_all i args h)) tt)
 
 -- the path of one word
 pub one_word : (path : List (List ℕ)) (word : List ℕ) → 1 ≤ length path → length path < 2 → word ≡ get_or path 0 word → path ≡ word ∷ []
@@ -64,9 +88,9 @@ parts_more classes seen now parts i p r h e a =
       );
     }
 
-pub methods_named : (classes : List (List ℕ)) (ms : List (List ℕ × PlainTy)) → MethodsLeft classes [] ms ↔ HasWellNamed classes ms
+pub methods_named : (classes : List (List ℕ)) (ms : List (List ℕ × PlainFun)) → MethodsLeft classes [] ms ↔ HasWellNamed classes ms
 methods_named classes ms =
-    let l = left_is (λ (m : List ℕ × PlainTy). m.0) (λ m. IsMethodName m.0 m.1 × IsDeclared classes m.1) ms in
+    let l = left_is (λ (m : List ℕ × PlainFun). m.0) (λ m. IsMethodName m.0 (result_of m.1) × HasDeclared classes m.1) ms in
     (λ h. record { once = (l.0 h).0; each = (l.0 h).1 }, λ h. l.1 (h.once, h.each))
 
 pub parts_stop : (classes seen now : List (List ℕ)) (parts : List Part) (i : ℕ) (p : Part) → PartsRead classes parts i seen → i < length parts → p ≡ get_or parts i p
@@ -160,9 +184,9 @@ pub classes_refused : (ds : PlainDecls) → (ClassesLeft [] (classes_of ds) → 
 classes_refused ds f w = f ((classes_named ds).1 (w.classes_once, w.classes_own))
 
 -- a name of one word is known where it is a class of the file
-pub known_word : (classes : List (List ℕ)) (rooted : Bool) (path : List (List ℕ)) (word : List ℕ) (found : Bool) → rooted ≡ false → path ≡ word ∷ [] → is_among word result_classes ≡ false → found ≡ is_among word classes
+pub known_word : (classes : List (List ℕ)) (rooted : Bool) (path : List (List ℕ)) (word : List ℕ) (found : Bool) → rooted ≡ false → path ≡ word ∷ [] → is_among word value_classes ≡ false → found ≡ is_among word classes
     → IsTrue found ↔ IsKnown classes rooted path
 known_word classes rooted path word found r p n f =
-    let whole : (is_among word result_classes || is_among word classes) ≡ found = ap (λ b. b || is_among word classes) n ∙ sym f in
+    let whole : (is_among word value_classes || is_among word classes) ≡ found = ap (λ b. b || is_among word classes) n ∙ sym f in
     subst (λ (path : List (List ℕ)). IsTrue found ↔ IsKnown classes rooted path) (sym p)
     (subst (λ (rooted : Bool). IsTrue found ↔ IsKnown classes rooted (word ∷ [])) (sym r) (λ h. whole ∙ h, λ h. sym whole ∙ h))

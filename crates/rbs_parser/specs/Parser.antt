@@ -4,16 +4,16 @@ use Rattle.plain_data.specs.declared.memory.NoMemory.{NoMemory}
 use Rattle.sig_model.specs.declared.decl.Decl.{Decl}
 use Rattle.sig_model.specs.declared.ty.Ty.{Ty}
 use Rattle.sig_model.specs.declared.ty.BaseTy.TheVariants as base_ty
-use Rattle.sig_model.specs.PlainTy.{PlainTy, base, no_args, plain_ty}
+use Rattle.sig_model.specs.PlainTy.{PlainTy, PlainTys, base, no_tys, more_tys, append_tys, plain_ty, plain_tys}
 use Rattle.sig_model.specs.PlainDecl.{PlainDecls, PlainParts, no_decls, more_decls, no_parts, inner, member, plain_decls, plain_parts}
-use Rattle.sig_model.specs.Built.{named, class_of}
+use Rattle.sig_model.specs.Built.{named, unnamed, class_of}
 use Rattle.rbs_parser.specs.declared.token.Token.{Token}
 use Rattle.rbs_parser.specs.declared.token.Kind.{Kind}
 use Rattle.rbs_parser.specs.declared.token.Kind.TheVariants as kind
 use Rattle.rbs_parser.specs.declared.parser.Wanted.{Wanted}
 use Rattle.rbs_parser.specs.declared.parser.Wanted.TheVariants as wanted
-use Rattle.rbs_parser.specs.declared.parser.Progress.{Progress}
-use Rattle.rbs_parser.specs.declared.parser.Progress.TheVariants as progress
+use Rattle.rbs_parser.specs.declared.parser.Progress as a_progress
+use Rattle.rbs_parser.specs.declared.parser.Progress.TheVariants as a_progress_of
 use Rattle.rbs_parser.specs.declared.parser.Stage as a_stage
 use Rattle.rbs_parser.specs.declared.parser.Stage.TheVariants as a_stage_of
 use Rattle.rbs_parser.specs.declared.parser.Parser.{Parser}
@@ -27,6 +27,12 @@ abbrev pub parts_then : PlainParts → PlainParts → PlainParts
 parts_then no_parts qs = qs
 parts_then (inner d ps) qs = inner d (parts_then ps qs)
 parts_then (member place notes m ps) qs = member place notes m (parts_then ps qs)
+
+-- how far a method is read: none is begun, behind the `def` that began it, or in its type, with where it began, its name, the types of its parameters so far, and what must follow
+pub data Progress : Type 0 where
+  between_methods : Progress
+  name_next : ℕ → Progress
+  in_type : ℕ → List ℕ → PlainTys → Wanted → Progress
 
 -- where the text stands: outside of classes, behind `class`, or in a class, with where it began, its name, its parts so far, and how far the next one is read
 pub data Stage : Type 0 where
@@ -52,60 +58,74 @@ top_level decls _ start = None
 
 -- behind `class`
 abbrev pub class_name : PlainDecls → ℕ → Kind → Option State
-class_name decls start (kind.Upper name) = Some (reading decls (inside start name no_parts progress.Between))
+class_name decls start (kind.Upper name) = Some (reading decls (inside start name no_parts between_methods))
 class_name decls start _ = None
 
 -- behind `def`
 abbrev pub method_name : ℕ → Kind → Option Progress
-method_name start (kind.Lower name) = Some (progress.Method start name wanted.Colon)
+method_name start (kind.Lower name) = Some (in_type start name no_tys wanted.Colon)
 method_name start _ = None
 
 -- a mark in a method's type, and what must follow it
 abbrev pub mark : Wanted → Kind → Option Wanted
 mark wanted.Colon kind.Colon = Some wanted.Open
-mark wanted.Open kind.Open = Some wanted.Close
-mark wanted.Close kind.Close = Some wanted.Arrow
+mark wanted.Open kind.Open = Some wanted.First
+mark wanted.First kind.Close = Some wanted.Arrow
+mark wanted.Separator kind.Comma = Some wanted.Parameter
+mark wanted.Separator kind.Close = Some wanted.Arrow
 mark wanted.Arrow kind.Arrow = Some wanted.Outcome
 mark _ _ = None
 
--- the type of a result
-abbrev pub outcome : Kind → Option PlainTy
-outcome kind.Nil = Some (base base_ty.Nil)
-outcome kind.Void = Some (base base_ty.Void)
-outcome (kind.Upper name) = Some (named name)
-outcome _ = None
+-- the type that a token is
+abbrev pub type_of : Kind → Option PlainTy
+type_of kind.Nil = Some (base base_ty.Nil)
+type_of kind.Void = Some (base base_ty.Void)
+type_of (kind.Upper name) = Some (named name)
+type_of _ = None
 
 -- in a class, with how far a method is read
 abbrev pub with_progress : PlainDecls → ℕ → List ℕ → PlainParts → Option Progress → Option State
 with_progress decls begin name parts None = None
 with_progress decls begin name parts (Some progress) = Some (reading decls (inside begin name parts progress))
 
-abbrev pub method_goes : ℕ → List ℕ → Option Wanted → Option Progress
-method_goes first method None = None
-method_goes first method (Some wanted) = Some (progress.Method first method wanted)
+-- behind a parameter
+abbrev pub parameter : PlainDecls → ℕ → List ℕ → PlainParts → ℕ → List ℕ → PlainTys → Option PlainTy → Option State
+parameter decls begin name parts first method tys None = None
+parameter decls begin name parts first method tys (Some ty) = Some (reading decls (inside begin name parts (in_type first method (append_tys tys (more_tys ty no_tys)) wanted.Separator)))
 
 module _ (file : ℕ) where
   -- between the methods of a class
   abbrev pub between : PlainDecls → ℕ → List ℕ → PlainParts → Kind → ℕ → ℕ → Option State
-  between decls begin name parts kind.Def start end = Some (reading decls (inside begin name parts (progress.Name start)))
+  between decls begin name parts kind.Def start end = Some (reading decls (inside begin name parts (name_next start)))
   between decls begin name parts kind.End start end = Some (reading (decls_then decls (more_decls (class_of (span file begin end) name parts) no_decls)) outside)
   between decls begin name parts _ start end = None
 
   -- behind a method's result
-  abbrev pub method_ends : PlainDecls → ℕ → List ℕ → PlainParts → ℕ → List ℕ → ℕ → Option PlainTy → Option State
-  method_ends decls begin name parts first method end None = None
-  method_ends decls begin name parts first method end (Some ty) =
-      Some (reading decls (inside begin name (parts_then parts (with_method (span file first end) method no_args ty no_parts)) progress.Between))
+  abbrev pub method_ends : PlainDecls → ℕ → List ℕ → PlainParts → ℕ → List ℕ → PlainTys → ℕ → Option PlainTy → Option State
+  method_ends decls begin name parts first method tys end None = None
+  method_ends decls begin name parts first method tys end (Some ty) =
+      Some (reading decls (inside begin name (parts_then parts (with_method (span file first end) method (unnamed tys) ty no_parts)) between_methods))
 
-  abbrev pub method_type : PlainDecls → ℕ → List ℕ → PlainParts → ℕ → List ℕ → Wanted → Kind → ℕ → Option State
-  method_type decls begin name parts first method wanted.Outcome kind end = method_ends decls begin name parts first method end (outcome kind)
-  method_type decls begin name parts first method wanted kind end = with_progress decls begin name parts (method_goes first method (mark wanted kind))
+  -- a type in a method's type
+  abbrev pub type_goes : PlainDecls → ℕ → List ℕ → PlainParts → ℕ → List ℕ → PlainTys → Wanted → Kind → ℕ → Option State
+  type_goes decls begin name parts first method tys wanted.First kind end = parameter decls begin name parts first method tys (type_of kind)
+  type_goes decls begin name parts first method tys wanted.Parameter kind end = parameter decls begin name parts first method tys (type_of kind)
+  type_goes decls begin name parts first method tys wanted.Outcome kind end = method_ends decls begin name parts first method tys end (type_of kind)
+  type_goes decls begin name parts first method tys _ kind end = None
+
+  -- in a method's type, with what must follow where a mark stands
+  abbrev pub method_goes : PlainDecls → ℕ → List ℕ → PlainParts → ℕ → List ℕ → PlainTys → Wanted → Kind → ℕ → Option Wanted → Option State
+  method_goes decls begin name parts first method tys wanted kind end (Some next) = Some (reading decls (inside begin name parts (in_type first method tys next)))
+  method_goes decls begin name parts first method tys wanted kind end None = type_goes decls begin name parts first method tys wanted kind end
+
+  abbrev pub method_type : PlainDecls → ℕ → List ℕ → PlainParts → ℕ → List ℕ → PlainTys → Wanted → Kind → ℕ → Option State
+  method_type decls begin name parts first method tys wanted kind end = method_goes decls begin name parts first method tys wanted kind end (mark wanted kind)
 
   -- in a class
   abbrev pub in_class : PlainDecls → ℕ → List ℕ → PlainParts → Progress → Kind → ℕ → ℕ → Option State
-  in_class decls begin name parts progress.Between kind start end = between decls begin name parts kind start end
-  in_class decls begin name parts (progress.Name first) kind start end = with_progress decls begin name parts (method_name first kind)
-  in_class decls begin name parts (progress.Method first method wanted) kind start end = method_type decls begin name parts first method wanted kind end
+  in_class decls begin name parts between_methods kind start end = between decls begin name parts kind start end
+  in_class decls begin name parts (name_next first) kind start end = with_progress decls begin name parts (method_name first kind)
+  in_class decls begin name parts (in_type first method tys wanted) kind start end = method_type decls begin name parts first method tys wanted kind end
 
   abbrev pub step : Stage → PlainDecls → Kind → ℕ → ℕ → Option State
   step outside decls kind start end = top_level decls kind start
@@ -124,11 +144,16 @@ ends _ decls = None
 abbrev pub final : State → Option PlainDecls
 final s = ends s.stage s.decls
 
--- the stage without the types' shapes
+-- the progress and the stage without the types' shapes
+abbrev pub progress_of : a_progress.Progress → Progress
+progress_of a_progress_of.Between = between_methods
+progress_of (a_progress_of.Name first) = name_next first
+progress_of (a_progress_of.Method method wanted) = in_type method.first method.name (plain_tys method.parameters) wanted
+
 abbrev pub stage_of : a_stage.Stage → Stage
 stage_of a_stage_of.Outside = outside
 stage_of (a_stage_of.Class begin) = named_next begin
-stage_of (a_stage_of.Inside begin name parts progress) = inside begin name (plain_parts parts) progress
+stage_of (a_stage_of.Inside begin name parts progress) = inside begin name (plain_parts parts) (progress_of progress)
 
 abbrev pub state : Parser → State
 state p = reading (plain_decls p.decls) (stage_of p.stage)
@@ -139,10 +164,10 @@ Does o (Ok (Some p)) = o ≡ Some (state p)
 Does o (Ok None) = o ≡ None
 Does o (Err e) = Unit {0}
 
-abbrev pub DoesOutcome : Option PlainTy → Result (Option Ty) NoMemory → Type 0
-DoesOutcome o (Ok (Some ty)) = o ≡ Some (plain_ty ty)
-DoesOutcome o (Ok None) = o ≡ None
-DoesOutcome o (Err e) = Unit {0}
+abbrev pub DoesType : Option PlainTy → Result (Option Ty) NoMemory → Type 0
+DoesType o (Ok (Some ty)) = o ≡ Some (plain_ty ty)
+DoesType o (Ok None) = o ≡ None
+DoesType o (Err e) = Unit {0}
 
 -- What `parse_tokens` answers: the classes that the tokens are, and no others, or none.
 abbrev pub AnswersClasses : ℕ → List Token → Option (List Decl) → Type 0

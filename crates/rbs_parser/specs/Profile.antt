@@ -6,7 +6,7 @@ use Rattle.names.specs.Places.{same_name, is_among}
 use Rattle.sig_model.specs.declared.decl.Decl.{Decl}
 use Rattle.sig_model.specs.declared.ty.BaseTy.{BaseTy}
 use Rattle.sig_model.specs.declared.ty.BaseTy.TheVariants as base_ty
-use Rattle.sig_model.specs.PlainTy.{PlainTy, PlainFun, base, name, no_tys, function}
+use Rattle.sig_model.specs.PlainTy.{PlainTy, PlainArgs, PlainFun, base, name, no_tys, no_args, more_args, function}
 use Rattle.sig_model.specs.PlainMember.{PlainMember, method}
 use Rattle.sig_model.specs.PlainDecl.{PlainDecls, PlainParts, no_decls, more_decls, decl, class, no_parts, inner, member, plain_decls}
 use Rattle.rbs_parser.specs.declared.token.Token.{Token}
@@ -36,20 +36,20 @@ reserved_names = codes "hash" ∷ codes "to_ary" ∷ codes "to_proc" ∷ codes "
 abbrev pub is_reserved : List ℕ → Bool
 is_reserved word = is_among word reserved_names || starts_with nat_eq word (codes "__")
 
--- the classes of the core signature whose values a result may be
-abbrev pub result_classes : List (List ℕ)
-result_classes = codes "Integer" ∷ codes "String" ∷ codes "Symbol" ∷ []
+-- the classes of the core signature whose values a parameter or a result may be
+abbrev pub value_classes : List (List ℕ)
+value_classes = codes "Integer" ∷ codes "String" ∷ codes "Symbol" ∷ []
 
 abbrev pub result_of : PlainFun → PlainTy
 result_of (function required optional more trailing keys key_more blk result) = result
 
 -- a member, before the methods behind it
-abbrev pub method_before : PlainMember → List (List ℕ × PlainTy) → List (List ℕ × PlainTy)
-method_before (method vis single word (overload ∷ overloads)) behind = (word, result_of overload.fun) ∷ behind
+abbrev pub method_before : PlainMember → List (List ℕ × PlainFun) → List (List ℕ × PlainFun)
+method_before (method vis single word (overload ∷ overloads)) behind = (word, overload.fun) ∷ behind
 method_before _ behind = behind
 
--- the methods of a class in order: the name and the result (of the first overload) of each; other parts declare none
-abbrev pub methods_of : PlainParts → List (List ℕ × PlainTy)
+-- the methods of a class in order: the name and the type (of the first overload) of each; other parts declare none
+abbrev pub methods_of : PlainParts → List (List ℕ × PlainFun)
 methods_of no_parts = []
 methods_of (inner d parts) = methods_of parts
 methods_of (member place notes m parts) = method_before m (methods_of parts)
@@ -73,9 +73,9 @@ abbrev pub IsMethodName : List ℕ → PlainTy → Type 0
 IsMethodName word result =
     MatchBool (same_name word (codes "initialize")) (result ≡ base base_ty.Void) ((is_among word core_names ≡ false) × (is_reserved word ≡ false))
 
--- a class that a result may name: one of the core signature, or of the file
+-- a class that a type may name: one of the core signature, or of the file
 abbrev pub IsKnown : List (List ℕ) → Bool → List (List ℕ) → Type 0
-IsKnown classes false (word ∷ []) = (is_among word result_classes || is_among word classes) ≡ true
+IsKnown classes false (word ∷ []) = (is_among word value_classes || is_among word classes) ≡ true
 IsKnown classes _ _ = ⊥
 
 -- the words of the language that a result may be
@@ -90,10 +90,22 @@ IsDeclared classes (base word) = IsResultWord word
 IsDeclared classes (name n no_tys) = IsKnown classes n.rooted n.path
 IsDeclared classes _ = ⊥
 
--- each method of a class may have its name and its result, and no name stands twice
-pub record HasWellNamed (classes : List (List ℕ)) (methods : List (List ℕ × PlainTy)) : Type 0 where
+-- A parameter is of a type that a result may have, but not of `void`.
+abbrev pub IsParameter : List (List ℕ) → PlainTy → Type 0
+IsParameter classes ty = IsDeclared classes ty × (ty ≡ base base_ty.Void → ⊥)
+
+abbrev pub AreParameters : List (List ℕ) → PlainArgs → Type 0
+AreParameters classes no_args = Unit {0}
+AreParameters classes (more_args ty word args) = IsParameter classes ty × AreParameters classes args
+
+-- the types of a method: each of its required parameters, and its result
+abbrev pub HasDeclared : List (List ℕ) → PlainFun → Type 0
+HasDeclared classes (function required optional more trailing keys key_more blk result) = AreParameters classes required × IsDeclared classes result
+
+-- each method of a class may have its name, its parameters and its result, and no name stands twice
+pub record HasWellNamed (classes : List (List ℕ)) (methods : List (List ℕ × PlainFun)) : Type 0 where
   pub once : IsDistinct same_name (map (λ m. m.0) methods)
-  pub each : AllByRecursion (λ m. IsMethodName m.0 m.1 × IsDeclared classes m.1) methods
+  pub each : AllByRecursion (λ m. IsMethodName m.0 (result_of m.1) × HasDeclared classes m.1) methods
 
 -- each name is declared, and none twice
 pub record IsWellNamed (ds : PlainDecls) : Type 0 where

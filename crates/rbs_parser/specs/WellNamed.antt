@@ -2,9 +2,9 @@
 use Rattle.std.specs.Prelude.{◌≡◌, ◌↔◌, ℕ, Bool, true, false, List, [], ◌∷◌, ◌++◌}
 use Rattle.std.specs.List.{AllByRecursion}
 use Rattle.names.specs.Places.{is_among}
-use Rattle.sig_model.specs.PlainTy.{PlainTy}
+use Rattle.sig_model.specs.PlainTy.{PlainFun}
 use Rattle.sig_model.specs.PlainDecl.{PlainDecl, PlainDecls, PlainParts, more_decls}
-use Rattle.rbs_parser.specs.Profile.{IsMethodName, IsDeclared, HasWellNamed, core_classes, classes_of, class_names, methods_of}
+use Rattle.rbs_parser.specs.Profile.{IsMethodName, HasDeclared, HasWellNamed, core_classes, result_of, classes_of, class_names, methods_of}
 
 -- The names of these things, behind those that were seen: none of them is among the ones before it, and each may stand.
 abbrev pub Left : {A : Type 0} → (A → List ℕ) → (A → Type 0) → List (List ℕ) → List A → Type 0
@@ -12,8 +12,8 @@ Left key May seen [] = Unit {0}
 Left key May seen (x ∷ xs) = (is_among (key x) seen ≡ false) × May x × Left key May (seen ++ key x ∷ []) xs
 
 -- the methods that are left of a class
-abbrev pub MethodsLeft : List (List ℕ) → List (List ℕ) → List (List ℕ × PlainTy) → Type 0
-MethodsLeft classes seen ms = Left (λ m. m.0) (λ m. IsMethodName m.0 m.1 × IsDeclared classes m.1) seen ms
+abbrev pub MethodsLeft : List (List ℕ) → List (List ℕ) → List (List ℕ × PlainFun) → Type 0
+MethodsLeft classes seen ms = Left (λ m. m.0) (λ m. IsMethodName m.0 (result_of m.1) × HasDeclared classes m.1) seen ms
 
 -- the classes that are left of a file
 abbrev pub ClassesLeft : List (List ℕ) → List (List ℕ × PlainParts) → Type 0

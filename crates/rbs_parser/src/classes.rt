@@ -24,6 +24,7 @@ fn refused(file: u32) -> ParseRefused
 }
 
 /// The classes that a signature file declares, in their order, each with its place and those of its methods, in bytes.
+/// A method has one overload; the types in its parentheses are its required parameters, in their order.
 ///
 /// `Syntax` stands at the file's first byte, where the text is no signature file. `Limit` is never answered.
 pub fn parse_classes(alloc: Global, file: u32, bytes: &[u8]) -> Result<Many<Decl>, ParseRefused>

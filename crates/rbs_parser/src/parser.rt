@@ -1,9 +1,10 @@
 //! The classes of signature text, read one token at a time.
 
 ghost use Rattle.std.specs.Prelude.{◌≡◌, IfOk, Ok, Some, option_map};
+ghost use Rattle.sig_model.specs.PlainTy.{plain_tys};
 ghost use Rattle.sig_model.specs.PlainDecl.{plain_decls, plain_parts};
 ghost use Rattle.rbs_parser.specs.Parser as machine;
-ghost use Rattle.rbs_parser.specs.Parser.{AnswersClasses, Does, DoesOutcome, state};
+ghost use Rattle.rbs_parser.specs.Parser.{AnswersClasses, Does, DoesType, progress_of, state};
 
 use crate::token::{Kind, Token};
 use plain_data::{Many, NoMemory, Word};
@@ -18,9 +19,22 @@ use std::alloc::Global;
 pub enum Wanted {
     Colon,
     Open,
-    Close,
+    /// The first parameter, or `)`.
+    First,
+    /// A comma or `)`, behind a parameter.
+    Separator,
+    /// A parameter, behind a comma.
+    Parameter,
     Arrow,
     Outcome,
+}
+
+/// A method that began at the byte `first`, behind these parameters.
+#[derive(Debug, Drop)]
+pub struct Heading {
+    pub first: u32,
+    pub name: Word,
+    pub parameters: Many<Ty>,
 }
 
 /// How far a method is read.
@@ -29,14 +43,9 @@ pub enum Progress {
     /// None is begun: `def` or `end` must follow.
     Between,
     /// The name must follow a `def` that began at this byte.
-    Name {
-        first: u32,
-    },
-    Method {
-        first: u32,
-        name: Word,
-        wanted: Wanted,
-    },
+    Name { first: u32 },
+    /// The method's type is begun, and this must follow.
+    Method { method: Heading, wanted: Wanted },
 }
 
 /// Where the text stands.
@@ -103,13 +112,16 @@ fn class_name(alloc: Global, decls: Many<Decl>, begin: u32, kind: Kind) -> Optio
 }
 
 /// Behind `def`.
-fn method_name(first: u32, kind: Kind) -> Option<Progress>
-    ensures { result ≡ machine.method_name first kind }
+fn method_name(alloc: Global, first: u32, kind: Kind) -> Option<Progress>
+    ensures { option_map progress_of result ≡ machine.method_name first kind }
 {
     match kind {
         Kind::Lower(name) => Some(Progress::Method {
-            first,
-            name,
+            method: Heading {
+                first,
+                name,
+                parameters: Many::new(alloc),
+            },
             wanted: Wanted::Colon,
         }),
         _ => None,
@@ -122,16 +134,18 @@ fn mark(wanted: Wanted, kind: &Kind) -> Option<Wanted>
 {
     match (wanted, kind) {
         (Wanted::Colon, Kind::Colon) => Some(Wanted::Open),
-        (Wanted::Open, Kind::Open) => Some(Wanted::Close),
-        (Wanted::Close, Kind::Close) => Some(Wanted::Arrow),
+        (Wanted::Open, Kind::Open) => Some(Wanted::First),
+        (Wanted::First, Kind::Close) => Some(Wanted::Arrow),
+        (Wanted::Separator, Kind::Comma) => Some(Wanted::Parameter),
+        (Wanted::Separator, Kind::Close) => Some(Wanted::Arrow),
         (Wanted::Arrow, Kind::Arrow) => Some(Wanted::Outcome),
         _ => None,
     }
 }
 
-/// The type of a result.
-fn outcome(alloc: Global, kind: Kind) -> Result<Option<Ty>, NoMemory>
-    ensures { DoesOutcome (machine.outcome kind) result }
+/// The type that a token is.
+fn type_of(alloc: Global, kind: Kind) -> Result<Option<Ty>, NoMemory>
+    ensures { DoesType (machine.type_of kind) result }
 {
     match kind {
         Kind::Nil => Ok(Some(base_type(BaseTy::Nil))),
@@ -143,7 +157,7 @@ fn outcome(alloc: Global, kind: Kind) -> Result<Option<Ty>, NoMemory>
 
 /// In a class, with how far a method is read.
 fn with_progress(decls: Many<Decl>, class: Open, progress: Option<Progress>) -> Option<Parser>
-    ensures { Does (machine.with_progress (plain_decls decls) class.begin class.name (plain_parts class.parts) progress) (Ok result) }
+    ensures { Does (machine.with_progress (plain_decls decls) class.begin class.name (plain_parts class.parts) (option_map progress_of progress)) (Ok result) }
 {
     let Open { begin, name, parts } = class;
     Some(Parser {
@@ -188,62 +202,99 @@ fn between(
     }
 }
 
+/// Behind a parameter.
+#[tactic(auto, using(sig_model::specs::Plain::plain_types))]
+fn parameter(
+    alloc: Global,
+    decls: Many<Decl>,
+    class: Open,
+    method: Heading,
+    kind: Kind,
+) -> Result<Option<Parser>, NoMemory>
+    ensures { Does (machine.parameter (plain_decls decls) class.begin class.name (plain_parts class.parts) method.first method.name (plain_tys method.parameters) (machine.type_of kind)) result }
+{
+    let Some(ty) = type_of(alloc, kind)? else {
+        return Ok(None);
+    };
+    let mut method = method;
+    method.parameters.push(ty)?;
+    let progress = Progress::Method {
+        method,
+        wanted: Wanted::Separator,
+    };
+    Ok(with_progress(decls, class, Some(progress)))
+}
+
 /// Behind a method's result.
 #[tactic(auto, using(crate::proofs::Plain::plain_parts_push))]
 fn method_ends(
     alloc: Global,
-    place: Place,
+    file: u32,
     decls: Many<Decl>,
     class: Open,
-    method: Word,
-    kind: Kind,
+    method: Heading,
+    token: Token,
 ) -> Result<Option<Parser>, NoMemory>
-    ensures { Does (machine.method_ends place.file (plain_decls decls) class.begin class.name (plain_parts class.parts) place.start method place.end (machine.outcome kind)) result }
+    ensures { Does (machine.method_ends file (plain_decls decls) class.begin class.name (plain_parts class.parts) method.first method.name (plain_tys method.parameters) token.end (machine.type_of token.kind)) result }
 {
-    let Some(ty) = outcome(alloc, kind)? else {
+    let Token { kind, end, .. } = token;
+    let Some(ty) = type_of(alloc, kind)? else {
         return Ok(None);
     };
-    let Open { begin, name, parts } = class;
-    let mut parts = parts;
-    parts.push(plain_method_part(alloc, place, method, Many::new(alloc), ty)?)?;
-    Ok(Some(Parser {
-        decls,
-        stage: Stage::Inside {
-            begin,
-            name,
-            parts,
-            progress: Progress::Between,
-        },
-    }))
+    let Heading {
+        first,
+        name,
+        parameters,
+    } = method;
+    let place = Place {
+        file,
+        start: first,
+        end,
+    };
+    let mut class = class;
+    let part = plain_method_part(alloc, place, name, parameters, ty)?;
+    class.parts.push(part)?;
+    Ok(with_progress(decls, class, Some(Progress::Between)))
+}
+
+/// In the type of a method, at a token that is no mark.
+fn type_goes(
+    alloc: Global,
+    file: u32,
+    decls: Many<Decl>,
+    class: Open,
+    method: Heading,
+    wanted: Wanted,
+    token: Token,
+) -> Result<Option<Parser>, NoMemory>
+    ensures { Does (machine.type_goes file (plain_decls decls) class.begin class.name (plain_parts class.parts) method.first method.name (plain_tys method.parameters) wanted token.kind token.end) result }
+{
+    match wanted {
+        Wanted::First | Wanted::Parameter => {
+            let Token { kind, .. } = token;
+            parameter(alloc, decls, class, method, kind)
+        }
+        Wanted::Outcome => method_ends(alloc, file, decls, class, method, token),
+        Wanted::Colon | Wanted::Open | Wanted::Separator | Wanted::Arrow => Ok(None),
+    }
 }
 
 /// In the type of a method.
 fn method_type(
     alloc: Global,
-    place: Place,
+    file: u32,
     decls: Many<Decl>,
     class: Open,
-    method: Word,
+    method: Heading,
     wanted: Wanted,
-    kind: Kind,
+    token: Token,
 ) -> Result<Option<Parser>, NoMemory>
-    ensures { Does (machine.method_type place.file (plain_decls decls) class.begin class.name (plain_parts class.parts) place.start method wanted kind place.end) result }
+    ensures { Does (machine.method_type file (plain_decls decls) class.begin class.name (plain_parts class.parts) method.first method.name (plain_tys method.parameters) wanted token.kind token.end) result }
 {
-    if let Wanted::Outcome = wanted {
-        return method_ends(alloc, place, decls, class, method, kind);
+    match mark(wanted, &token.kind) {
+        Some(wanted) => Ok(with_progress(decls, class, Some(Progress::Method { method, wanted }))),
+        None => type_goes(alloc, file, decls, class, method, wanted, token),
     }
-    let Some(wanted) = mark(wanted, &kind) else {
-        return Ok(None);
-    };
-    Ok(with_progress(
-        decls,
-        class,
-        Some(Progress::Method {
-            first: place.start,
-            name: method,
-            wanted,
-        }),
-    ))
 }
 
 /// In a class.
@@ -255,26 +306,16 @@ fn in_class(
     progress: Progress,
     token: Token,
 ) -> Result<Option<Parser>, NoMemory>
-    ensures { Does (machine.in_class file (plain_decls decls) class.begin class.name (plain_parts class.parts) progress token.kind token.start token.end) result }
+    ensures { Does (machine.in_class file (plain_decls decls) class.begin class.name (plain_parts class.parts) (progress_of progress) token.kind token.start token.end) result }
 {
     match progress {
         Progress::Between => between(alloc, file, decls, class, token),
         Progress::Name { first } => {
             let Token { kind, .. } = token;
-            Ok(with_progress(decls, class, method_name(first, kind)))
+            Ok(with_progress(decls, class, method_name(alloc, first, kind)))
         }
-        Progress::Method {
-            first,
-            name,
-            wanted,
-        } => {
-            let Token { kind, end, .. } = token;
-            let place = Place {
-                file,
-                start: first,
-                end,
-            };
-            method_type(alloc, place, decls, class, name, wanted, kind)
+        Progress::Method { method, wanted } => {
+            method_type(alloc, file, decls, class, method, wanted, token)
         }
     }
 }

@@ -1,11 +1,19 @@
 use crate::{ParseRefused, parse_classes};
 use plain_data::NoMemory;
-use sig_model::decl::{Decl, DeclBody, Part};
+use sig_model::decl::{Decl, DeclBody, Member, Part};
 use sig_model::place::Place;
+use sig_model::ty::{Arg, BaseTy, Ty};
 use std::alloc::Global;
 use std::test::Fail;
 
 const MAX_TEXT: usize = 1000;
+
+/// The first byte of the file that `count` reads.
+const FIRST_BYTE: Place = Place {
+    file: 3,
+    start: 0,
+    end: 0,
+};
 
 /// How many classes a text declares, or where it is refused.
 fn count(alloc: Global, bytes: &[u8]) -> Result<usize, ParseRefused> {
@@ -38,6 +46,53 @@ fn places_of(alloc: Global, text: &str) -> Result<Vec<(u32, u32)>, NoMemory> {
         }
     }
     Ok(places)
+}
+
+/// Adds the types of parameters, each with a space behind it.
+fn add_types(required: &[Arg], shown: &mut String) -> Result<(), NoMemory> {
+    for arg in required {
+        match &arg.ty {
+            Ty::Name { name, .. } => {
+                if let [word] = name.path.as_slice() {
+                    shown.push_str(word.as_str())?;
+                }
+            }
+            Ty::Base(BaseTy::Nil) => shown.push_str("nil")?,
+            _ => {}
+        }
+        shown.push(' ')?;
+    }
+    Ok(())
+}
+
+/// Adds the parameters of a class's methods, each method's with a bar behind them.
+fn add_parameters(decl: &Decl, shown: &mut String) -> Result<(), NoMemory> {
+    if let DeclBody::Class { parts, .. } = &decl.body {
+        for part in parts.as_slice() {
+            if let Part::Member {
+                member: Member::Method { overloads, .. },
+                ..
+            } = part
+                && let [overload] = overloads.as_slice()
+            {
+                add_types(overload.fun.required.as_slice(), shown)?;
+                shown.push('|')?;
+            }
+        }
+    }
+    Ok(())
+}
+
+fn parameters_of(alloc: Global, text: &str) -> Result<String, NoMemory> {
+    let mut shown = String::new(alloc);
+    if text.len() <= MAX_TEXT
+        && let Ok(decls) = parse_classes(alloc, 0, text.as_bytes())
+    {
+        for decl in decls.as_slice() {
+            add_parameters(decl, &mut shown)?;
+        }
+    }
+    Ok(shown)
 }
 
 #[test]
@@ -79,7 +134,7 @@ fn reads_good_texts(rt: HostRuntime) -> Result<(), Fail> {
 
 #[test]
 fn refuses_other_texts(rt: HostRuntime) -> Result<(), Fail> {
-    let bad: [&str; 29] = [
+    let bad: [&str; 28] = [
         "class A",
         "class A def a: () -> nil",
         "class A end end",
@@ -94,7 +149,6 @@ fn refuses_other_texts(rt: HostRuntime) -> Result<(), Fail> {
         "class A def a: () -> ::Integer end",
         "class A def a: () -> (Integer) end",
         "class A def a: () -> bool end",
-        "class A def a: (Integer, String) -> nil end",
         "class A def a?: () -> nil end",
         "class A def a: -> Integer end",
         "class A end class A end",
@@ -110,25 +164,88 @@ fn refuses_other_texts(rt: HostRuntime) -> Result<(), Fail> {
         "class A def Foo: () -> nil end",
         "class \u{e9} end",
     ];
-    let first = Place {
-        file: 3,
-        start: 0,
-        end: 0,
-    };
     for text in bad {
         assert_eq!(rt;
             count(rt.alloc(), text.as_bytes()),
-            Err(ParseRefused::Syntax(first)),
+            Err(ParseRefused::Syntax(FIRST_BYTE)),
             "{text}"
         );
     }
+    Ok(())
+}
+
+#[test]
+fn refuses_what_is_no_text(rt: HostRuntime) -> Result<(), Fail> {
     assert_eq!(rt;
         count(rt.alloc(), b"\xff"),
-        Err(ParseRefused::Syntax(first))
+        Err(ParseRefused::Syntax(FIRST_BYTE))
     );
     assert_eq!(rt;
         count(rt.alloc(), b"# \xff\n"),
-        Err(ParseRefused::Syntax(first))
+        Err(ParseRefused::Syntax(FIRST_BYTE))
     );
+    Ok(())
+}
+
+#[test]
+fn reads_parameters_in_order(rt: HostRuntime) -> Result<(), Fail> {
+    let good: [(&str, &str); 7] = [
+        ("class A def a: () -> nil end", "|"),
+        ("class A def a: (Integer) -> void end", "Integer |"),
+        ("class A def initialize: (nil) -> void end", "nil |"),
+        (
+            "class A def a: (Integer, String , Symbol,nil,A,Integer) -> A end",
+            "Integer String Symbol nil A Integer |",
+        ),
+        (
+            "class A def a: (B) -> nil def b: () -> nil def c: (B, A) -> B end class B def a: (A, B) -> A end",
+            "B ||B A |A B |",
+        ),
+        (
+            "class A def # )\n a # (\n : # (\n ( # nil\n Integer # String,\n\r\n,\tnil\n\n) # ,\n -> nil end",
+            "Integer nil |",
+        ),
+        ("class A\ndef a\n:(Integer\n,\nA)->nil\nend", "Integer A |"),
+    ];
+    for (text, shown) in good {
+        let parameters = parameters_of(rt.alloc(), text)?;
+        assert_eq!(rt; parameters.as_str(), shown, "{text}");
+    }
+    Ok(())
+}
+
+#[test]
+fn refuses_other_parameters(rt: HostRuntime) -> Result<(), Fail> {
+    let bad: [&str; 22] = [
+        "class A def a: (,) -> nil end",
+        "class A def a: (Integer,) -> nil end",
+        "class A def a: (,Integer) -> nil end",
+        "class A def a: (Integer,,String) -> nil end",
+        "class A def a: (Integer String) -> nil end",
+        "class A def a: (Integer, # String) -> nil\n end",
+        "class A def a: (void) -> nil end",
+        "class A def a: (Integer, void) -> void end",
+        "class A def a: (Missing) -> nil end",
+        "class A def a: (Integer, Missing, A) -> nil end",
+        "class A def a: (Object) -> nil end",
+        "class A def a: (bool) -> nil end",
+        "class A def a: (integer) -> nil end",
+        "class A def a: (::Integer) -> nil end",
+        "class A def a: ((Integer)) -> nil end",
+        "class A def a: (Integer one) -> nil end",
+        "class A def a: (Integer -> nil end",
+        "class A def a: Integer -> nil end",
+        "class A def a: Integer) -> nil end",
+        "class A def a: (Integer) (String) -> nil end",
+        "class A def initialize: (Integer) -> nil end",
+        "class A def a: (Integer) -> nil def a: (String) -> nil end",
+    ];
+    for text in bad {
+        assert_eq!(rt;
+            count(rt.alloc(), text.as_bytes()),
+            Err(ParseRefused::Syntax(FIRST_BYTE)),
+            "{text}"
+        );
+    }
     Ok(())
 }

@@ -3,24 +3,24 @@
 ghost use Rattle.std.specs.Prelude.{◌≡◌, ◌↔◌, ℕ, List, [], ◌∷◌, IfOk, IsTrue, MatchOption};
 ghost use Rattle.sig_model.specs.declared.ty.BaseTy.TheVariants as base_ty;
 ghost use Rattle.sig_model.specs.PlainTy as plain;
-ghost use Rattle.sig_model.specs.PlainTy.{PlainTy, plain_ty};
+ghost use Rattle.sig_model.specs.PlainTy.{PlainFun, plain_ty, plain_fun, plain_args};
 ghost use Rattle.sig_model.specs.PlainMember.{plain_member};
 ghost use Rattle.sig_model.specs.PlainDecl.{PlainDecls, PlainParts, plain_decl, plain_decls, plain_parts, part_before, more_decls};
-ghost use Rattle.rbs_parser.specs.Profile.{IsDeclared, IsKnown, IsMethodName, IsResultWord, IsWellNamed, HasWellNamed, class_before, classes_of, method_before, methods_of, class_names};
+ghost use Rattle.rbs_parser.specs.Profile.{AreParameters, HasDeclared, IsDeclared, IsKnown, IsMethodName, IsParameter, IsResultWord, IsWellNamed, HasWellNamed, class_before, classes_of, method_before, methods_of, class_names, result_of};
 ghost use Rattle.rbs_parser.specs.WellNamed.{AdmitsPart, AdmitsDecl, AdmitsMethods, ClassesLeft, MethodsOfClasses};
 
-use crate::words::{is_core_class, is_core_name, is_reserved, is_result_class};
+use crate::words::{is_core_class, is_core_name, is_reserved, is_value_class};
 use names::Names;
 use plain_data::{NoMemory, Word};
 use sig_model::decl::{Decl, DeclBody, Member, Part};
-use sig_model::ty::{BaseTy, Ty, TypeName};
+use sig_model::ty::{Arg, BaseTy, FunTy, Ty, TypeName};
 use std::alloc::Global;
 
-/// A method's name and its result.
+/// A method's name and its type.
 #[derive(Drop)]
 struct Method<'a> {
     name: &'a Word,
-    outcome: &'a Ty,
+    fun: &'a FunTy,
 }
 
 /// A class's name and its parts.
@@ -32,7 +32,7 @@ struct Class<'a> {
 
 /// The method that a member declares.
 fn member_method(member: &Member) -> Option<Method<'_>>
-    ensures { MatchOption result ((behind : List (List ℕ × PlainTy)) → method_before (plain_member member.now) behind ≡ behind) (λ m. (behind : List (List ℕ × PlainTy)) → method_before (plain_member member.now) behind ≡ (m.name.now, plain_ty m.outcome.now) ∷ behind) }
+    ensures { MatchOption result ((behind : List (List ℕ × PlainFun)) → method_before (plain_member member.now) behind ≡ behind) (λ m. (behind : List (List ℕ × PlainFun)) → method_before (plain_member member.now) behind ≡ (m.name.now, plain_fun m.fun.now) ∷ behind) }
 {
     match member {
         Member::Method {
@@ -42,7 +42,7 @@ fn member_method(member: &Member) -> Option<Method<'_>>
         } => match overloads.get(0) {
             Some(overload) => Some(Method {
                 name,
-                outcome: &overload.fun.result,
+                fun: &overload.fun,
             }),
             None => None,
         },
@@ -52,7 +52,7 @@ fn member_method(member: &Member) -> Option<Method<'_>>
 
 /// The method that a part declares.
 fn method_of(part: &Part) -> Option<Method<'_>>
-    ensures { MatchOption result ((behind : PlainParts) → methods_of (part_before part.now behind) ≡ methods_of behind) (λ m. (behind : PlainParts) → methods_of (part_before part.now behind) ≡ (m.name.now, plain_ty m.outcome.now) ∷ methods_of behind) }
+    ensures { MatchOption result ((behind : PlainParts) → methods_of (part_before part.now behind) ≡ methods_of behind) (λ m. (behind : PlainParts) → methods_of (part_before part.now behind) ≡ (m.name.now, plain_fun m.fun.now) ∷ methods_of behind) }
 {
     match part {
         Part::Inner(_) => None,
@@ -84,13 +84,13 @@ fn class_of(decl: &Decl) -> Option<Class<'_>>
     }
 }
 
-/// Whether a name is that of a class of the core signature whose values a result may be, or of the file.
+/// Whether a name is that of a class of the core signature whose values a parameter or a result may be, or of the file.
 fn is_known(classes: &Names, name: &TypeName) -> bool
     ensures { IsTrue result ↔ IsKnown classes.now name.now.rooted name.now.path }
 {
     match name.path.as_slice() {
         [word] if !name.rooted => {
-            is_result_class(word.as_str()) || classes.place_of(word).is_some()
+            is_value_class(word.as_str()) || classes.place_of(word).is_some()
         }
         _ => false,
     }
@@ -148,13 +148,41 @@ fn is_void(ty: &Ty) -> bool
     }
 }
 
-/// Whether a method may have this name with this result.
-fn is_method_name(name: &Word, outcome: &Ty) -> bool
-    ensures { IsTrue result ↔ IsMethodName name.now (plain_ty outcome.now) }
+/// Whether a parameter is `nil` or a known class.
+fn is_parameter(classes: &Names, ty: &Ty) -> bool
+    ensures { IsTrue result ↔ IsParameter classes.now (plain_ty ty.now) }
+{
+    is_declared(classes, ty) && !is_void(ty)
+}
+
+/// Whether each parameter is `nil` or a known class.
+fn are_parameters(classes: &Names, args: &[Arg]) -> bool
+    ensures { IsTrue result ↔ AreParameters classes.now (plain_args args.now) }
+{
+    for arg in args {
+        if !is_parameter(classes, &arg.ty) {
+            return false;
+        }
+    }
+    true
+}
+
+/// Whether the parameters and the result of a method have declared types.
+#[tactic(auto, using(sig_model::specs::Plain::plain_types))]
+fn has_declared(classes: &Names, fun: &FunTy) -> bool
+    ensures { IsTrue result ↔ HasDeclared classes.now (plain_fun fun.now) }
+{
+    are_parameters(classes, fun.required.as_slice()) && is_declared(classes, &fun.result)
+}
+
+/// Whether a method may have this name with the result of this type.
+#[tactic(auto, using(sig_model::specs::Plain::plain_types))]
+fn is_method_name(name: &Word, fun: &FunTy) -> bool
+    ensures { IsTrue result ↔ IsMethodName name.now (result_of (plain_fun fun.now)) }
 {
     let text = name.as_str();
     if text == "initialize" {
-        is_void(outcome)
+        is_void(&fun.result)
     } else {
         !is_core_name(text) && !is_reserved(text)
     }
@@ -167,7 +195,7 @@ fn admits_part(classes: &Names, seen: &mut Names, part: &Part) -> Result<bool, N
     let Some(method) = method_of(part) else {
         return Ok(true);
     };
-    if is_method_name(method.name, method.outcome) && is_declared(classes, method.outcome) {
+    if is_method_name(method.name, method.fun) && has_declared(classes, method.fun) {
         seen.add(method.name.clone()?)
     } else {
         Ok(false)

@@ -3,7 +3,7 @@
 ghost use Rattle.std.specs.Prelude.{◌≡◌};
 ghost use Rattle.std.specs.List.{list_any};
 ghost use Rattle.names.specs.Places.{same_name, is_among};
-ghost use Rattle.rbs_parser.specs.Profile.{core_classes, core_names, is_reserved, result_classes};
+ghost use Rattle.rbs_parser.specs.Profile.{core_classes, core_names, is_reserved, value_classes};
 ghost use Rattle.rbs_parser.specs.Tokens.{keywords, begins_upper, is_interface_name, word_kind};
 
 use crate::token::Kind;
@@ -119,8 +119,8 @@ const RESERVED_NAMES: [&str; 13] = [
     "method_added",
 ];
 
-/// The classes of the core signature whose values a result may be.
-const RESULT_CLASSES: [&str; 3] = ["Integer", "String", "Symbol"];
+/// The classes of the core signature whose values a parameter or a result may be.
+const VALUE_CLASSES: [&str; 3] = ["Integer", "String", "Symbol"];
 
 /// Whether a text is one of these.
 fn is_one_of(text: &str, words: &[&str]) -> bool
@@ -157,11 +157,11 @@ pub fn is_reserved(text: &str) -> bool
     is_one_of(text, &RESERVED_NAMES) || text.as_bytes().starts_with(b"__")
 }
 
-/// Whether a result may be of the class of the core signature with this name.
-pub fn is_result_class(text: &str) -> bool
-    ensures { result ≡ is_among text.now result_classes }
+/// Whether a parameter or a result may be of the class of the core signature with this name.
+pub fn is_value_class(text: &str) -> bool
+    ensures { result ≡ is_among text.now value_classes }
 {
-    is_one_of(text, &RESULT_CLASSES)
+    is_one_of(text, &VALUE_CLASSES)
 }
 
 /// Whether a text begins with an ASCII capital.
