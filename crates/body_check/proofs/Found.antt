@@ -1,6 +1,6 @@
 -- What is found by its name, where the place of the name is known.
-use Rattle.std.proofs.Common.{◌≡◌, ℕ, ◌+◌, ◌<◌, ◌≤◌, List, [], ◌∷◌, Bool, true, false, cond, length, get_or, map, refl, ap, sym, ◌∙◌, subst, arith, nat_lt}
-use Rattle.std.specs.Prelude.{Option, None, Some, position, option_and_then, slice_get, not}
+use Rattle.std.proofs.Common.{◌≡◌, ℕ, ◌+◌, ◌<◌, List, [], ◌∷◌, Bool, true, false, cond, length, get_or, map, refl, ap, sym, ◌∙◌, arith, nat_lt}
+use Rattle.std.specs.Prelude.{Option, None, Some, option_and_then, slice_get, not}
 use Rattle.std.specs.List.{find, position_or_len}
 use Rattle.std.proofs.lemmas.Bool.{ltb-false}
 use Rattle.std.proofs.lemmas.List.{length-map}

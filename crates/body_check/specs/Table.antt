@@ -1,9 +1,8 @@
 -- What a signature declares of its classes.
 use Rattle.std.specs.Prelude.{ℕ, List, [], ◌∷◌}
-use Rattle.sig_model.specs.declared.ty.TypeName.{TypeName}
 use Rattle.sig_model.specs.declared.ty.BaseTy.{BaseTy}
 use Rattle.sig_model.specs.declared.ty.BaseTy.TheVariants as base_ty
-use Rattle.sig_model.specs.PlainTy.{PlainTy, PlainFun, name, base, function}
+use Rattle.sig_model.specs.PlainTy.{PlainTy, PlainArgs, PlainFun, name, base, no_args, more_args, function}
 use Rattle.sig_model.specs.PlainMember.{PlainMethod, PlainMember, method}
 use Rattle.sig_model.specs.PlainDecl.{PlainDecl, PlainBody, PlainParts, PlainDecls, decl, class, no_parts, inner, member, no_decls, more_decls}
 use Rattle.body_check.specs.declared.ty.ValueType.{ValueType}
@@ -25,6 +24,19 @@ type_of (name n args) = ty.Class (first_word n.path)
 type_of (base b) = base_type b
 type_of _ = ty.Void
 
+-- the types of positional parameters
+abbrev pub types_of : PlainArgs → List ValueType
+types_of no_args = []
+types_of (more_args t n more) = type_of t ∷ types_of more
+
+abbrev pub fun_parameters : PlainFun → List ValueType
+fun_parameters (function required optional more trailing keys more_keys with result) = types_of required
+
+-- what the first overload requires
+abbrev pub parameters_of : List PlainMethod → List ValueType
+parameters_of [] = []
+parameters_of (m ∷ ms) = fun_parameters m.fun
+
 abbrev pub fun_result : PlainFun → ValueType
 fun_result (function required optional more trailing keys more_keys with result) = type_of result
 
@@ -35,7 +47,7 @@ result_of (m ∷ ms) = fun_result m.fun
 
 -- a member, before the methods behind it
 abbrev pub method_before : PlainMember → List MethodEntry → List MethodEntry
-method_before (method vis single word overloads) behind = record { name = word; gives = result_of overloads } ∷ behind
+method_before (method vis single word overloads) behind = record { name = word; parameters = parameters_of overloads; gives = result_of overloads } ∷ behind
 method_before _ behind = behind
 
 -- the methods of a class in order

@@ -1,5 +1,5 @@
 -- The types of the profile.
-use Rattle.std.specs.Prelude.{ℕ, Bool, true, false, List, [], ◌∷◌, ◌++◌, codes}
+use Rattle.std.specs.Prelude.{ℕ, Bool, true, false, List, ◌++◌, codes}
 use Rattle.names.specs.Places.{same_name}
 use Rattle.ruby_reader.specs.declared.tree.Literal.{Literal}
 use Rattle.ruby_reader.specs.declared.tree.Literal.TheVariants as literal

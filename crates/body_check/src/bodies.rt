@@ -5,14 +5,14 @@ ghost use Rattle.std.specs.List.{AllByRecursion, IsDistinct};
 ghost use Rattle.std.specs.Option.{option_copied, option_to_list};
 ghost use Rattle.std.specs.Prelude.{IsTrue, ◌↔◌};
 ghost use Rattle.names.specs.Places.{same_name};
-ghost use Rattle.body_check.specs.Types.{literal_type, type_text};
-ghost use Rattle.body_check.specs.Bodies.{SameNames, class_names, method_names, defined_names, opened_names, methods_in, gives_in, IsDefined, Matches, mismatch, fault_against, fault_of, faults_in, faults};
+ghost use Rattle.body_check.specs.Bodies.{SameNames, class_names, method_names, defined_names, opened_names, methods_in, method_in, HasArity, DefinesJust, IsDefined, Matches, mismatch, fault_against, fault_of_method, fault_of, faults_in, faults_of_classes, faults};
 
 use crate::table::{ClassMethods, MethodEntry};
-use crate::ty::{ValueType, fits, literal_type, type_text};
+use crate::ty::{ValueType, fits, type_text};
+use crate::values::{body_type, with_parameters};
 use names::{Names, all_among, names_of};
 use plain_data::{Many, NoMemory, Word};
-use ruby_reader::{Definition, Opening};
+use ruby_reader::{Definition, Opening, Program};
 use sig_model::diag::{Diag, DiagId};
 use sig_model::place::Place;
 use std::alloc::Global;
@@ -28,13 +28,13 @@ fn methods_in<'a>(classes: &'a [ClassMethods], index: &Names, name: &Word) -> &'
     }
 }
 
-/// What the method with a name gives, where the index has the methods' names.
-fn gives_in<'a>(methods: &'a [MethodEntry], index: &Names, name: &Word) -> Option<&'a ValueType>
+/// The method with a name, where the index has the methods' names.
+fn method_in<'a>(methods: &'a [MethodEntry], index: &Names, name: &Word) -> Option<&'a MethodEntry>
     requires { index.now ≡ method_names methods.now }
-    ensures { option_copied result ≡ gives_in name.now methods.now }
+    ensures { option_copied result ≡ method_in name.now methods.now }
 {
     let place = index.place_of(name)?;
-    Some(&methods[place].gives)
+    Some(&methods[place])
 }
 
 /// A body that gives one type where another is wanted.
@@ -61,21 +61,41 @@ fn mismatch(
     })
 }
 
-/// The fault of a definition against what its method is declared to give.
+/// The fault of a body that gives a type where another is wanted.
 fn fault_against(
     alloc: Global,
     file: u32,
-    definition: &Definition,
+    start: u32,
+    given: &ValueType,
     wanted: &ValueType,
 ) -> Result<Option<Diag>, NoMemory>
-    ensures { IfOk result (λ fault. option_to_list fault ≡ fault_against file definition.now (Some wanted.now)) }
+    ensures { IfOk result (λ fault. option_to_list fault ≡ fault_against file start (Some given.now) wanted.now) }
 {
-    let given = literal_type(alloc, &definition.body)?;
-    if fits(&given, wanted) {
+    if fits(given, wanted) {
         return Ok(None);
     }
-    let fault = mismatch(alloc, file, definition.start, &given, wanted)?;
+    let fault = mismatch(alloc, file, start, given, wanted)?;
     Ok(Some(fault))
+}
+
+/// The fault of a definition of a method.
+fn fault_of_method(
+    alloc: Global,
+    file: u32,
+    definition: &Definition,
+    method: &MethodEntry,
+) -> Result<Option<Diag>, NoMemory>
+    ensures { IfOk result (λ fault. option_to_list fault ≡ fault_of_method file definition.now method.now) }
+{
+    let locals = with_parameters(
+        alloc,
+        definition.parameters.as_slice(),
+        method.parameters.as_slice(),
+    )?;
+    match body_type(alloc, locals, definition.body.as_slice())? {
+        Some(given) => fault_against(alloc, file, definition.start, &given, &method.gives),
+        None => Ok(None),
+    }
 }
 
 /// The fault of a definition, where the index has the names of its class's methods.
@@ -89,10 +109,34 @@ fn fault_of(
     requires { index.now ≡ method_names methods.now }
     ensures { IfOk result (λ fault. option_to_list fault ≡ fault_of file methods.now definition.now) }
 {
-    match gives_in(methods, index, &definition.name) {
-        Some(wanted) => fault_against(alloc, file, definition, wanted),
+    match method_in(methods, index, &definition.name) {
+        Some(method) => fault_of_method(alloc, file, definition, method),
         None => Ok(None),
     }
+}
+
+/// Whether a definition has as many parameters as its method requires.
+fn has_arity(methods: &[MethodEntry], index: &Names, definition: &Definition) -> bool
+    requires { index.now ≡ method_names methods.now }
+    ensures { IsTrue result ↔ HasArity methods.now definition.now }
+{
+    match method_in(methods, index, &definition.name) {
+        Some(method) => method.parameters.len() == definition.parameters.len(),
+        None => false,
+    }
+}
+
+/// Whether each definition has as many parameters as its method requires.
+fn have_arity(methods: &[MethodEntry], index: &Names, definitions: &[Definition]) -> bool
+    requires { index.now ≡ method_names methods.now }
+    ensures { IsTrue result ↔ AllByRecursion (HasArity methods.now) definitions.now }
+{
+    for definition in definitions {
+        if !has_arity(methods, index, definition) {
+            return false;
+        }
+    }
+    true
 }
 
 /// Adds the faults of a class's definitions, where the index has the names of its methods.
@@ -115,6 +159,29 @@ fn add_faults(
     Ok(())
 }
 
+/// Whether these definitions are those of just these methods, where the index has the methods' names.
+fn defines_just(
+    alloc: Global,
+    methods: &[MethodEntry],
+    index: &Names,
+    definitions: &[Definition],
+) -> Result<bool, NoMemory>
+    requires distinct { IsDistinct same_name (method_names methods.now) }
+    requires index { index.now ≡ method_names methods.now }
+    ensures { IfOk result (λ just. IsTrue just ↔ DefinesJust methods.now definitions.now) }
+{
+    let Some(defined) = names_of(alloc, definitions)? else {
+        return Ok(false);
+    };
+    if !all_among(methods, &defined) {
+        return Ok(false);
+    }
+    if !all_among(definitions, index) {
+        return Ok(false);
+    }
+    Ok(have_arity(methods, index, definitions))
+}
+
 /// Adds the faults of a class's definitions, and answers true, where they are just its methods.
 fn check_class(
     alloc: Global,
@@ -123,20 +190,14 @@ fn check_class(
     definitions: &[Definition],
     list: &mut Many<Diag>,
 ) -> Result<bool, NoMemory>
-    ensures { IfOk result (λ same. MatchBool same
-        (SameNames (method_names methods.now) (defined_names definitions.now) × (list.new ≡ list.old ++ faults_in file methods.now definitions.now))
-        (¬ (SameNames (method_names methods.now) (defined_names definitions.now)))) }
+    ensures { IfOk result (λ just. MatchBool just
+        (DefinesJust methods.now definitions.now × (list.new ≡ list.old ++ faults_in file methods.now definitions.now))
+        (¬ (DefinesJust methods.now definitions.now))) }
 {
     let Some(declared) = names_of(alloc, methods)? else {
         return Ok(false);
     };
-    let Some(defined) = names_of(alloc, definitions)? else {
-        return Ok(false);
-    };
-    if !all_among(methods, &defined) {
-        return Ok(false);
-    }
-    if !all_among(definitions, &declared) {
+    if !defines_just(alloc, methods, &declared, definitions)? {
         return Ok(false);
     }
     add_faults(alloc, file, methods, &declared, definitions, list)?;
@@ -173,7 +234,7 @@ fn check_openings(
 ) -> Result<Option<Many<Diag>>, NoMemory>
     requires { index.now ≡ class_names classes.now }
     ensures { IfOk result (λ found. MatchOption found (¬ (AllByRecursion (IsDefined classes.now) openings.now))
-        (λ list. AllByRecursion (IsDefined classes.now) openings.now × (list ≡ faults file classes.now openings.now))) }
+        (λ list. AllByRecursion (IsDefined classes.now) openings.now × (list ≡ faults_of_classes file classes.now openings.now))) }
 {
     let mut list = Many::new(alloc);
     for opening in openings {
@@ -191,19 +252,20 @@ fn check_openings(
     Ok(Some(list))
 }
 
-/// The faults of a text's bodies in its order, or `None` where the text doesn't define just what the classes declare.
+/// The faults of a program's bodies in its order, or `None` where the program doesn't define just what the classes declare.
 pub fn check(
     alloc: Global,
     file: u32,
     classes: &[ClassMethods],
-    openings: &[Opening],
+    program: &Program,
 ) -> Result<Option<Many<Diag>>, NoMemory>
-    ensures { IfOk result (λ found. MatchOption found (¬ (Matches classes.now openings.now))
-        (λ list. Matches classes.now openings.now × (list ≡ faults file classes.now openings.now))) }
+    ensures { IfOk result (λ found. MatchOption found (¬ (Matches classes.now program.now))
+        (λ list. Matches classes.now program.now × (list ≡ faults file classes.now program.now))) }
 {
     let Some(index) = names_of(alloc, classes)? else {
         return Ok(None);
     };
+    let openings = program.openings.as_slice();
     if !is_opened(alloc, classes, &index, openings)? {
         return Ok(None);
     }

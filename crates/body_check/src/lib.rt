@@ -5,6 +5,7 @@ mod bodies;
 mod named;
 mod table;
 mod ty;
+mod values;
 
 pub use bodies::check;
 pub use table::{ClassMethods, MethodEntry, classes_of};

@@ -1,24 +1,25 @@
-//! The classes of a signature, with what their methods give.
+//! The classes of a signature, with what their methods take and give.
 
 ghost use Rattle.std.specs.Option.{option_to_list};
 ghost use Rattle.std.specs.Prelude.{List, ◌≡◌, IfOk, ◌++◌, [], ◌∷◌};
-ghost use Rattle.sig_model.specs.PlainTy.{plain_ty, plain_fun};
+ghost use Rattle.sig_model.specs.PlainTy.{plain_ty, plain_args, plain_fun};
 ghost use Rattle.sig_model.specs.PlainMember.{plain_methods, plain_member};
 ghost use Rattle.sig_model.specs.PlainDecl.{PlainParts, part_before, plain_parts, plain_decls, plain_body};
 ghost use Rattle.body_check.specs.declared.table.MethodEntry.{MethodEntry};
 ghost use Rattle.body_check.specs.declared.table.ClassMethods.{ClassMethods};
-ghost use Rattle.body_check.specs.Table.{base_type, type_of, fun_result, result_of, first_word, method_before, methods_of, class_before, classes_of};
+ghost use Rattle.body_check.specs.Table.{base_type, type_of, types_of, fun_parameters, parameters_of, fun_result, result_of, first_word, method_before, methods_of, class_before, classes_of};
 
 use crate::ty::ValueType;
 use plain_data::{Many, NoMemory, Word};
 use sig_model::decl::{Decl, DeclBody, Member, MethodTy, Part};
-use sig_model::ty::{BaseTy, Ty, TypeName};
+use sig_model::ty::{Arg, BaseTy, Ty, TypeName};
 use std::alloc::Global;
 
-/// A method of a class, with what its first overload gives.
+/// A method of a class, with the parameters that its first overload requires, and what that gives.
 #[derive(Debug, Drop)]
 pub struct MethodEntry {
     pub name: Word,
+    pub parameters: Many<ValueType>,
     pub gives: ValueType,
 }
 
@@ -79,6 +80,35 @@ fn type_of(alloc: Global, ty: &Ty) -> Result<ValueType, NoMemory>
     }
 }
 
+/// The types of positional parameters.
+fn types_of(alloc: Global, args: &[Arg]) -> Result<Many<ValueType>, NoMemory>
+    ensures { IfOk result (λ types. types ≡ types_of (plain_args args.now)) }
+{
+    let mut types = Many::new(alloc);
+    for arg in args {
+        types.push(type_of(alloc, &arg.ty)?)?;
+    }
+    Ok(types)
+}
+
+/// What an overload requires.
+#[tactic(auto, using(sig_model::specs::Plain::plain_types))]
+fn overload_parameters(alloc: Global, overload: &MethodTy) -> Result<Many<ValueType>, NoMemory>
+    ensures { IfOk result (λ found. found ≡ fun_parameters (plain_fun overload.now.fun)) }
+{
+    types_of(alloc, overload.fun.required.as_slice())
+}
+
+/// What the first overload requires.
+fn parameters_of(alloc: Global, overloads: &[MethodTy]) -> Result<Many<ValueType>, NoMemory>
+    ensures { IfOk result (λ found. found ≡ parameters_of (plain_methods overloads.now)) }
+{
+    match overloads {
+        [] => Ok(Many::new(alloc)),
+        [first, ..] => overload_parameters(alloc, first),
+    }
+}
+
 /// What an overload gives.
 #[tactic(auto, using(sig_model::specs::Plain::plain_types))]
 fn overload_result(alloc: Global, overload: &MethodTy) -> Result<ValueType, NoMemory>
@@ -109,6 +139,7 @@ fn entry_of(alloc: Global, member: &Member) -> Result<Option<MethodEntry>, NoMem
             overloads,
         } => Ok(Some(MethodEntry {
             name: name.clone()?,
+            parameters: parameters_of(alloc, overloads.as_slice())?,
             gives: result_of(alloc, overloads.as_slice())?,
         })),
         Member::Attr { .. } => Ok(None),
@@ -169,7 +200,7 @@ fn class_in(alloc: Global, body: &DeclBody) -> Result<Option<ClassMethods>, NoMe
     }
 }
 
-/// The classes that a signature declares, in order, with what their methods give.
+/// The classes that a signature declares, in order, with what their methods take and give.
 pub fn classes_of(alloc: Global, decls: &[Decl]) -> Result<Many<ClassMethods>, NoMemory>
     ensures { IfOk result (λ classes. classes ≡ classes_of (plain_decls decls.now)) }
 {

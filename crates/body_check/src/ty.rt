@@ -17,6 +17,19 @@ pub enum ValueType {
     Class(Word),
 }
 
+impl ValueType {
+    /// The same type again.
+    pub fn copy(&self) -> Result<ValueType, NoMemory>
+        ensures { IfOk result (λ ty. ty ≡ self.now) }
+    {
+        match self {
+            ValueType::Nil => Ok(ValueType::Nil),
+            ValueType::Void => Ok(ValueType::Void),
+            ValueType::Class(name) => Ok(ValueType::Class(name.clone()?)),
+        }
+    }
+}
+
 /// The type of a literal.
 pub fn literal_type(alloc: Global, literal: &Literal) -> Result<ValueType, NoMemory>
     ensures { IfOk result (λ ty. ty ≡ literal_type literal.now) }

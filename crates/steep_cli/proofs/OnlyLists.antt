@@ -6,7 +6,7 @@ use Rattle.sig_model.specs.PlainDecl.{PlainDecls}
 use Rattle.sig_model.specs.declared.diag.Diag.{Diag}
 use Rattle.sig_model.specs.declared.diag.DiagId.TheVariants as id
 use Rattle.rbs_parser.specs.Profile.{IsSignature}
-use Rattle.ruby_reader.specs.declared.tree.Opening.{Opening}
+use Rattle.ruby_reader.specs.declared.tree.Program.{Program}
 use Rattle.ruby_reader.specs.Grammar.{IsRuby}
 use Rattle.ruby_reader.specs.Answers.{Answers}
 use Rattle.body_check.specs.Table.{classes_of}
@@ -15,15 +15,15 @@ use Rattle.steep_cli.specs.Only.{IsOnly}
 use Rattle.steep_cli.specs.Lists.{limit, at_first, IsProgram, RubyLists, ruby_too_large, no_program, bodies, Lists, signature_too_large, no_signature, good_signature, AnswersProgram}
 
 module _ (ds : PlainDecls) (bytes : List ℕ) where
-  -- the classes that the bytes open are one list, and it matches or not
+  -- the bytes are the text of one program, and it matches or not
   pub no_program_unread : Answers bytes None → AnswersProgram ds bytes None
-  no_program_unread none = λ os program. none os program.written
+  no_program_unread none = λ p program. none p program.written
 
-  pub no_program_unmatched : (os : List Opening) → Answers bytes (Some os) → (Matches (classes_of ds) os → ⊥) → AnswersProgram ds bytes None
-  no_program_unmatched os read differs = λ qs program. differs (subst (Matches (classes_of ds)) (read.1 qs program.written) program.matches)
+  pub no_program_unmatched : (p : Program) → Answers bytes (Some p) → (Matches (classes_of ds) p → ⊥) → AnswersProgram ds bytes None
+  no_program_unmatched p read differs = λ q program. differs (subst (Matches (classes_of ds)) (read.1 q program.written) program.matches)
 
-  pub program_matched : (os : List Opening) (list : List Diag) → Answers bytes (Some os) → Matches (classes_of ds) os → list ≡ faults 3 (classes_of ds) os → AnswersProgram ds bytes (Some list)
-  program_matched os list read same is = (os, record { written = read.0; matches = same }, is, λ qs program. read.1 qs program.written)
+  pub program_matched : (p : Program) (list : List Diag) → Answers bytes (Some p) → Matches (classes_of ds) p → list ≡ faults 3 (classes_of ds) p → AnswersProgram ds bytes (Some list)
+  program_matched p list read same is = (p, record { written = read.0; matches = same }, is, λ q program. read.1 q program.written)
 
   pub only_large : limit < length bytes → IsOnly (RubyLists ds bytes) (at_first 3 id.StrictLimit)
   only_large large = record { holds = ruby_too_large large; only = λ y other. go y other }
@@ -39,7 +39,7 @@ module _ (ds : PlainDecls) (bytes : List ℕ) where
       go : (y : List Diag) → RubyLists ds bytes y → y ≡ at_first 3 id.UnsupportedSyntax
       go y (ruby_too_large more) = absurd (omega arith)
       go y (no_program also other) = refl
-      go y (bodies {os = os} also program) = absurd (none os program)
+      go y (bodies {p = p} also program) = absurd (none p program)
 
   pub only_bodies : (list : List Diag) → length bytes ≤ limit → AnswersProgram ds bytes (Some list) → IsOnly (RubyLists ds bytes) list
   only_bodies list within found = record { holds = subst (RubyLists ds bytes) (sym found.2) (bodies within found.1); only = λ y other. go y other }
@@ -47,7 +47,7 @@ module _ (ds : PlainDecls) (bytes : List ℕ) where
       go : (y : List Diag) → RubyLists ds bytes y → y ≡ list
       go y (ruby_too_large more) = absurd (omega arith)
       go y (no_program also none) = absurd (none found.0 found.1)
-      go y (bodies {os = qs} also program) = ap (faults 3 (classes_of ds)) (found.3 qs program) ∙ sym found.2
+      go y (bodies {p = q} also program) = ap (faults 3 (classes_of ds)) (found.3 q program) ∙ sym found.2
 
 module _ (signature ruby : List ℕ) where
   pub only_large_signature : limit < length signature → IsOnly (Lists signature ruby) (at_first 2 id.StrictLimit)
@@ -84,13 +84,13 @@ pub ok_on : {X E : Type 0} (r : Result X E) (P Q : X → Type 0) → IfOk r P �
 ok_on (Ok x) P Q holds on = on x holds
 ok_on (Err e) P Q holds on = tt
 
-pub answers_checked : {E : Type 0} (ds : PlainDecls) (bytes : List ℕ) (os : List Opening) (r : Result (Option (List Diag)) E) (cs : List ClassMethods) (ps : List Opening) → Answers bytes (Some os) → cs ≡ classes_of ds → ps ≡ os
-    → IfOk r (λ found. MatchOption found (Matches cs ps → ⊥) (λ list. Matches cs ps × (list ≡ faults 3 cs ps))) → IfOk r (AnswersProgram ds bytes)
-answers_checked {E = E} ds bytes os r cs ps read cs_are ps_are checked =
-    go r (subst (λ qs. IfOk r (λ found. MatchOption found (Matches (classes_of ds) qs → ⊥) (λ list. Matches (classes_of ds) qs × (list ≡ faults 3 (classes_of ds) qs)))) ps_are
-    (subst (λ ds'. IfOk r (λ found. MatchOption found (Matches ds' ps → ⊥) (λ list. Matches ds' ps × (list ≡ faults 3 ds' ps)))) cs_are checked))
+pub answers_checked : {E : Type 0} (ds : PlainDecls) (bytes : List ℕ) (p : Program) (r : Result (Option (List Diag)) E) (cs : List ClassMethods) (q : Program) → Answers bytes (Some p) → cs ≡ classes_of ds → q ≡ p
+    → IfOk r (λ found. MatchOption found (Matches cs q → ⊥) (λ list. Matches cs q × (list ≡ faults 3 cs q))) → IfOk r (AnswersProgram ds bytes)
+answers_checked {E = E} ds bytes p r cs q read cs_are q_is checked =
+    go r (subst (λ q. IfOk r (λ found. MatchOption found (Matches (classes_of ds) q → ⊥) (λ list. Matches (classes_of ds) q × (list ≡ faults 3 (classes_of ds) q)))) q_is
+    (subst (λ ds'. IfOk r (λ found. MatchOption found (Matches ds' q → ⊥) (λ list. Matches ds' q × (list ≡ faults 3 ds' q)))) cs_are checked))
   where
-    go : (r : Result (Option (List Diag)) E) → IfOk r (λ found. MatchOption found (Matches (classes_of ds) os → ⊥) (λ list. Matches (classes_of ds) os × (list ≡ faults 3 (classes_of ds) os))) → IfOk r (AnswersProgram ds bytes)
-    go (Ok None) differs = no_program_unmatched ds bytes os read differs
-    go (Ok (Some list)) same = program_matched ds bytes os list read same.0 same.1
+    go : (r : Result (Option (List Diag)) E) → IfOk r (λ found. MatchOption found (Matches (classes_of ds) p → ⊥) (λ list. Matches (classes_of ds) p × (list ≡ faults 3 (classes_of ds) p))) → IfOk r (AnswersProgram ds bytes)
+    go (Ok None) differs = no_program_unmatched ds bytes p read differs
+    go (Ok (Some list)) same = program_matched ds bytes p list read same.0 same.1
     go (Err e) h = tt

@@ -5,7 +5,7 @@ use Rattle.sig_model.specs.declared.diag.Diag.{Diag}
 use Rattle.sig_model.specs.declared.diag.DiagId.{DiagId}
 use Rattle.sig_model.specs.declared.diag.DiagId.TheVariants as id
 use Rattle.rbs_parser.specs.Profile.{IsSignature}
-use Rattle.ruby_reader.specs.declared.tree.Opening.{Opening}
+use Rattle.ruby_reader.specs.declared.tree.Program.{Program}
 use Rattle.ruby_reader.specs.Grammar.{IsRuby}
 use Rattle.body_check.specs.Table.{classes_of}
 use Rattle.body_check.specs.Bodies.{Matches, faults}
@@ -19,15 +19,15 @@ abbrev pub at_first : ℕ → DiagId → List Diag
 at_first file fault = record { place = record { file = file; start = 0; end = 0 }; id = fault; args = [] } ∷ []
 
 -- the bytes are a program for these declarations: they open these classes, and define just what is declared
-pub record IsProgram (ds : PlainDecls) (os : List Opening) (bytes : List ℕ) : Type 0 where
-  pub written : IsRuby os bytes
-  pub matches : Matches (classes_of ds) os
+pub record IsProgram (ds : PlainDecls) (p : Program) (bytes : List ℕ) : Type 0 where
+  pub written : IsRuby p bytes
+  pub matches : Matches (classes_of ds) p
 
 -- what is listed of a Ruby file, where the signature file is good
 pub data RubyLists (ds : PlainDecls) (bytes : List ℕ) : List Diag → Type 0 where
   ruby_too_large : limit < length bytes → RubyLists ds bytes (at_first 3 id.StrictLimit)
-  no_program : length bytes ≤ limit → ((os : List Opening) → IsProgram ds os bytes → ⊥) → RubyLists ds bytes (at_first 3 id.UnsupportedSyntax)
-  bodies : {os : List Opening} → length bytes ≤ limit → IsProgram ds os bytes → RubyLists ds bytes (faults 3 (classes_of ds) os)
+  no_program : length bytes ≤ limit → ((p : Program) → IsProgram ds p bytes → ⊥) → RubyLists ds bytes (at_first 3 id.UnsupportedSyntax)
+  bodies : {p : Program} → length bytes ≤ limit → IsProgram ds p bytes → RubyLists ds bytes (faults 3 (classes_of ds) p)
 
 -- what is listed of both: the signature file's faults come first, and where there are some, nothing is said of the Ruby file
 pub data Lists (signature ruby : List ℕ) : List Diag → Type 0 where
@@ -37,5 +37,5 @@ pub data Lists (signature ruby : List ℕ) : List Diag → Type 0 where
 
 -- what reading a program answers: its faults, where the bytes are one program for these declarations, and nothing where they are none
 abbrev pub AnswersProgram : PlainDecls → List ℕ → Option (List Diag) → Type 0
-AnswersProgram ds bytes None = (os : List Opening) → IsProgram ds os bytes → ⊥
-AnswersProgram ds bytes (Some list) = (os : List Opening) × IsProgram ds os bytes × (list ≡ faults 3 (classes_of ds) os) × ((qs : List Opening) → IsProgram ds qs bytes → qs ≡ os)
+AnswersProgram ds bytes None = (p : Program) → IsProgram ds p bytes → ⊥
+AnswersProgram ds bytes (Some list) = (p : Program) × IsProgram ds p bytes × (list ≡ faults 3 (classes_of ds) p) × ((q : Program) → IsProgram ds q bytes → q ≡ p)

@@ -47,11 +47,11 @@ fn program_faults(
     requires { length bytes.now < 2 ^ 32 }
     ensures { IfOk result (AnswersProgram (plain_decls decls.now) bytes.now) }
 {
-    let Some(openings) = ruby_reader::read(alloc, bytes)? else {
+    let Some(program) = ruby_reader::read(alloc, bytes)? else {
         return Ok(None);
     };
     let classes = classes_of(alloc, decls)?;
-    check(alloc, RUBY, classes.as_slice(), openings.as_slice())
+    check(alloc, RUBY, classes.as_slice(), &program)
 }
 
 /// What is listed of a Ruby text.

@@ -1,6 +1,6 @@
 use Rattle.std.proofs.Common.{◌≡◌, ◌++◌, drop}
-use Rattle.sig_model.specs.PlainDecl.{plain_parts, plain_decls}
-use Rattle.body_check.specs.Table.{methods_of, classes_of}
+use Rattle.sig_model.specs.PlainDecl.{plain_decls}
+use Rattle.body_check.specs.Table.{classes_of}
 use Rattle.body_check.proofs.table.classes_of.Given as goal
 
 abbrev pub invariant-loop-decl : goal.invariant-loop-decl
