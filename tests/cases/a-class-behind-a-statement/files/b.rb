@@ -1,0 +1,6 @@
+1
+class A
+  def f
+    1
+  end
+end

@@ -1,0 +1,6 @@
+class A
+  def f
+    1
+  end
+end
+X = 1

@@ -1,0 +1,6 @@
+class A
+  def f
+    untyped = 1
+    untyped
+  end
+end

@@ -1,0 +1,6 @@
+class A
+  def f
+    x
+    x = 1
+  end
+end

@@ -1,0 +1,8 @@
+class A
+  def f
+    x = 1
+  end
+  def g
+    x
+  end
+end

@@ -1,0 +1,6 @@
+class A
+  def f
+    x
+  end
+end
+x = 1

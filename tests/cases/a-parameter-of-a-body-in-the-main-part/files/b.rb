@@ -1,0 +1,6 @@
+class A
+  def f(a, b)
+    a
+  end
+end
+a

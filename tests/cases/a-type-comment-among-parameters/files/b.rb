@@ -1,0 +1,7 @@
+class A
+  def f(a,
+  # @type var y: Integer
+  b)
+    a
+  end
+end

@@ -1,0 +1,7 @@
+class A
+  def f
+    x =
+    # @type var y: Integer
+    1
+  end
+end

@@ -1,0 +1,5 @@
+class A
+  def f
+    x = y = 1
+  end
+end

@@ -1,0 +1,1 @@
+;;class A;;def f;;x = 1;;;x;end;;end;; y = 2;; y;

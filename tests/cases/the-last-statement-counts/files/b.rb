@@ -1,0 +1,7 @@
+class A
+  def f
+    "a"
+    1; :b
+    2
+  end
+end

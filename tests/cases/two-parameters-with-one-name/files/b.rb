@@ -1,0 +1,5 @@
+class A
+  def f(a, a)
+    1
+  end
+end
