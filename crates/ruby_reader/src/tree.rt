@@ -1,6 +1,6 @@
 //! What a Ruby text of the profile says: classes with their methods, and the statements behind them.
 
-use plain_data::{Many, Word};
+use plain_data::{Boxed, Many, Word};
 
 /// A value that a text writes out.
 #[derive(Debug, Drop)]
@@ -12,11 +12,27 @@ pub enum Literal {
 }
 
 /// What has a value.
+#[cycle(expression)]
 #[derive(Debug, Drop)]
 pub enum Expression {
     Literal(Literal),
     /// A read of a local or a parameter, by its name.
     Local(Word),
+    /// A call of the method with this name. Its token runs from the byte `start` to the byte before `end`.
+    Call {
+        receiver: Boxed<Expression>,
+        name: Word,
+        start: u32,
+        end: u32,
+        arguments: Many<Expression>,
+    },
+    /// A new object of the class with this name. Its token `new` runs from the byte `start` to the byte before `end`.
+    New {
+        class: Word,
+        start: u32,
+        end: u32,
+        arguments: Many<Expression>,
+    },
 }
 
 /// A local's name, and the value that it gets.
