@@ -162,7 +162,7 @@ IsWritten p ts = Files free p.openings p.statements ts
 pub record IsRuby (p : PlainProgram) (bytes : List ℕ) : Type 0 where
   pub tokens : List Token
   pub divided : IsDivided tokens bytes
-  pub open : KeepsOpen tokens
+  pub keeps : KeepsOpen tokens
   pub written : IsWritten p tokens
   pub low : IsLow p
   pub scoped : HasScopes p

@@ -1,8 +1,10 @@
-pub mod Grammar
+pub mod PlainTree
+pub mod PlainLaws
+pub mod Heights
+pub mod Called
+pub mod Open
 pub mod Scopes
-pub mod ListMachine
+pub mod Grammar
+pub mod ExpressionMachine
 pub mod ParametersMachine
-pub mod MethodMachine
-pub mod ClassMachine
-pub mod FileMachine
 pub mod Answers

@@ -10,17 +10,17 @@ limit = 400
 
 -- what is open behind a token
 abbrev pub behind : ℕ → Kind → ℕ
-behind open kind.Open = open + 1
-behind open kind.Class = open + 1
-behind open kind.Def = open + 1
-behind open kind.Close = open - 1
-behind open kind.End = open - 1
-behind open _ = open
+behind n kind.Open = n + 1
+behind n kind.Class = n + 1
+behind n kind.Def = n + 1
+behind n kind.Close = n - 1
+behind n kind.End = n - 1
+behind n _ = n
 
 -- behind each of the tokens no more is open than may be
 abbrev pub KeepsOpenFrom : ℕ → List Token → Type 0
-KeepsOpenFrom open [] = Unit {0}
-KeepsOpenFrom open (t ∷ ts) = (behind open t.kind ≤ limit) × KeepsOpenFrom (behind open t.kind) ts
+KeepsOpenFrom n [] = Unit {0}
+KeepsOpenFrom n (t ∷ ts) = (behind n t.kind ≤ limit) × KeepsOpenFrom (behind n t.kind) ts
 
 abbrev pub KeepsOpen : List Token → Type 0
 KeepsOpen ts = KeepsOpenFrom 0 ts

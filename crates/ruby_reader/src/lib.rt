@@ -1,19 +1,12 @@
 //! Ruby text, read: the classes that it opens with their methods, and the statements behind them.
 #![tactic(auto)]
 
-mod class;
-mod file;
-mod list;
-mod method;
-mod named;
-mod operand;
+mod callable;
+mod expression;
+mod frames;
 mod parameters;
 mod progress;
-mod scopes;
-#[cfg(test)]
-mod tests;
-mod text;
+mod tall;
 mod tree;
 
-pub use text::read;
 pub use tree::{Assignment, Definition, Expression, Literal, Opening, Program, Statement};

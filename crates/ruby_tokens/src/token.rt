@@ -23,6 +23,10 @@ pub enum Kind {
     Close,
     Comma,
     Equals,
+    /// A dot on the line of what it is called on.
+    Dot,
+    /// A dot that begins a line.
+    LeadingDot,
     Semicolon,
     Newline,
     /// A comment on a line of its own that gives a local its type: `# @type var x: T`.
