@@ -6,5 +6,9 @@ pub mod Open
 pub mod Scopes
 pub mod Grammar
 pub mod ExpressionMachine
+pub mod ListMachine
 pub mod ParametersMachine
+pub mod MethodMachine
+pub mod ClassMachine
+pub mod FileMachine
 pub mod Answers

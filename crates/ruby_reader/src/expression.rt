@@ -293,6 +293,28 @@ fn after_name(
     }
 }
 
+fn final_behind(target: Target, way: Way) -> Option<Tall>
+    ensures { result ≡ machine.final_behind target way }
+{
+    match target {
+        Target::Value(value) => match way {
+            Way::Here | Way::Line => Some(value),
+            Way::Noted => None,
+        },
+        Target::Class(_) => None,
+    }
+}
+
+fn final_at(alloc: Global, place: ExpressionPlace) -> Result<Option<Tall>, NoMemory>
+    ensures { IfOk result (λ o. o ≡ machine.final_at place) }
+{
+    match place {
+        ExpressionPlace::Behind(target, way) => Ok(final_behind(target, way)),
+        ExpressionPlace::Called(call) => call.made(alloc, Row::new(alloc)),
+        ExpressionPlace::Before | ExpressionPlace::Opened(_) | ExpressionPlace::Dot(_) => Ok(None),
+    }
+}
+
 impl ExpressionReader {
     /// In front of an expression that may begin on a later line.
     pub fn new(alloc: Global) -> ExpressionReader
@@ -335,11 +357,7 @@ impl ExpressionReader {
         let ExpressionReader { mut frames, place } = self;
         match frames.pop() {
             Some(_) => Ok(None),
-            None => match place {
-                ExpressionPlace::Behind(Target::Value(value), Way::Here | Way::Line) => Ok(Some(value)),
-                ExpressionPlace::Called(call) => call.made(alloc, Row::new(alloc)),
-                _ => Ok(None),
-            },
+            None => final_at(alloc, place),
         }
     }
 }

@@ -2,8 +2,12 @@
 #![tactic(auto)]
 
 mod callable;
+mod class;
 mod expression;
+mod file;
 mod frames;
+mod list;
+mod method;
 mod parameters;
 mod progress;
 mod tall;

@@ -1,0 +1,18 @@
+-- What is left of a phrase: the relation of a reader to what it reads, by what still stands in front of it.
+use Rattle.std.proofs.Common.{◌≡◌, List, Option, Some, None}
+use Rattle.ruby_tokens.specs.declared.token.Token.{Token}
+use Rattle.ruby_reader.specs.declared.progress.Turn.{Turn}
+use Rattle.ruby_reader.specs.declared.progress.Turn.TheVariants as turn
+use Rattle.ruby_reader.specs.declared.progress.Progress.{Progress}
+use Rattle.ruby_reader.specs.declared.progress.Progress.TheVariants.{Reading, Read}
+use Rattle.ruby_reader.specs.Grammar as grammar
+
+abbrev pub turn_of : Turn → grammar.Turn
+turn_of turn.Free = grammar.free
+turn_of turn.Taken = grammar.taken
+
+-- `ts` down to `rest` is what is left of the phrase of `x`, after a token
+abbrev pub Goes : {R X : Type 0} → (R → X → List Token → List Token → Type 0) → Option (Progress R X) → X → List Token → List Token → Type 0
+Goes Left None x ts rest = ⊥
+Goes Left (Some (Reading r)) x ts rest = Left r x ts rest
+Goes Left (Some (Read y)) x ts rest = (x ≡ y) × (ts ≡ rest)
