@@ -175,8 +175,8 @@ pub within_in : (F : Option Expression → Type 0) (x : Expression) → height (
 within_in F x low g = subst F (sym (within_low x low)) g
 
 pub within_out : (F : Option Expression → Type 0) (x : Expression) → (F None → ⊥) → F (within x) → F (Some x)
-within_out F x no g = by_cases (is_low x) g
+within_out F x not_none g = by_cases (is_low x) g
   where
     by_cases : (b : Bool) → F (if b then Some x else None) → F (Some x)
     by_cases true g = g
-    by_cases false g = absurd (no g)
+    by_cases false g = absurd (not_none g)
