@@ -57,7 +57,7 @@ module _ (P : Turn → PlainExpression → List Token → Type 0) (w : Surrounds
   made_goes fs c xs ys t {ts = ts} same cs g =
       within_in (λ o. ExpressionGoes P (with_made fs o) t ts) (called c xs) (call_low fs c xs ys same cs g) (value_behind fs (called c xs) (plain_call c ys) (call_is c xs ys same) cs g)
 
-  operand_goes : (fs : List Frame) {x z : PlainExpression} {k : Kind} {s e : ℕ} {ts mid on : List Token} → Operands x (tok k s e ∷ ts) mid → Calls x z mid on → FramesLeft P fs z on → ExpressionGoes P (with_operand fs (operand_of k)) (tok k s e) ts
+  pub operand_goes : (fs : List Frame) {x z : PlainExpression} {k : Kind} {s e : ℕ} {ts mid on : List Token} → Operands x (tok k s e ∷ ts) mid → Calls x z mid on → FramesLeft P fs z on → ExpressionGoes P (with_operand fs (operand_of k)) (tok k s e) ts
   operand_goes fs (operand_literal literal_int) c g = value_behind fs _ _ (plain-Literal _) c g
   operand_goes fs (operand_literal literal_str) c g = value_behind fs _ _ (plain-Literal _) c g
   operand_goes fs (operand_literal literal_sym) c g = value_behind fs _ _ (plain-Literal _) c g
