@@ -16,3 +16,9 @@ abbrev pub Goes : {R X : Type 0} → (R → X → List Token → List Token → 
 Goes Left None x ts rest = ⊥
 Goes Left (Some (Reading r)) x ts rest = Left r x ts rest
 Goes Left (Some (Read y)) x ts rest = (x ≡ y) × (ts ≡ rest)
+
+-- the same for a phrase that the grammar knows by its plain twin
+abbrev pub Reaches : {R X Y : Type 0} → (X → Y) → (R → Y → List Token → List Token → Type 0) → Option (Progress R X) → Y → List Token → List Token → Type 0
+Reaches plain Left None x ts rest = ⊥
+Reaches plain Left (Some (Reading r)) x ts rest = Left r x ts rest
+Reaches plain Left (Some (Read y)) x ts rest = (x ≡ plain y) × (ts ≡ rest)
