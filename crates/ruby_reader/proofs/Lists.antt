@@ -23,12 +23,12 @@ use Rattle.ruby_reader.specs.Heights.{statement_height, limit, AreLow}
 use Rattle.ruby_reader.specs.Grammar.{tok, free, taken, break_newline, break_semicolon, literal_int, literal_str, literal_sym, literal_nil, skips_more, Skips, expression_calls, Expressions, operand_literal, operand_local, operand_new, States, state_expression, state_assignment, Ending, Ends, Lists, list_ends, list_break, list_more}
 use Rattle.ruby_reader.specs.ExpressionMachine.{operand, start, operand_of, with_operand, expression_next, expression_final}
 use Rattle.ruby_reader.specs.ListMachine.{local, statement_of, with_statement, between_statements, behind_low, with_outcome, with_final, equals_or, step, list_next, ends, list_final}
-use Rattle.ruby_reader.proofs.Steps.{turn_of}
+use Rattle.ruby_reader.proofs.Steps.{turn_of, map_more, none_more}
 use Rattle.ruby_reader.proofs.OpenCalls.{LeadsLeft, leads_left, HereLeft, here_leads, BehindLeft, goes_on, stops_on, ExpressionLeft, ExpressionGoes}
 use Rattle.ruby_reader.proofs.ExpressionGoes.{operand_goes, value_behind, expression_goes}
 use Rattle.ruby_reader.proofs.ExpressionReturns.{operand_left, expression_left}
 use Rattle.ruby_reader.proofs.ExpressionEnds.{ended_there, EndsAs, expression_ends, expression_finished}
-use Rattle.ruby_reader.proofs.Statements.{plain_of, plain_of_is, plain_more, none_more, no_state, no_equals_list, After, after_surrounds, with_low_statement, with_statement_in}
+use Rattle.ruby_reader.proofs.Statements.{plain_of, plain_of_is, no_state, no_equals_list, After, after_surrounds, with_low_statement, with_statement_in}
 
 -- what is left of a statement behind its first name, `n`, and of its list
 pub data NamedLeft (ending : Ending) (ss : List Statement) (qs : List PlainStatement) (rest : List Token) (n : List ℕ) : List Token → Type 0 where
@@ -116,7 +116,7 @@ module _ (ending : Ending) (ss : List Statement) where
   between_left turn.Taken _ g = absurd g
 
 same_more : (ss : List Statement) (goal : Option (List ℕ)) (x : Expression) (more : List PlainStatement) → plain_statements (ss ++ statement_of goal x ∷ []) ++ more ≡ plain_statements ss ++ plain_of goal (plain_expression x) ∷ more
-same_more ss goal x more = plain_more ss (statement_of goal x) more ∙ ap (λ q. plain_statements ss ++ q ∷ more) (plain_of_is goal x)
+same_more ss goal x more = map_more plain_statement ss (statement_of goal x) more ∙ ap (λ q. plain_statements ss ++ q ∷ more) (plain_of_is goal x)
 
 module _ (ending : Ending) (ss : List Statement) (goal : Option (List ℕ)) where
   add_goes : (x : Expression) (t : Turn) (o : Option Expression) {qs : List PlainStatement} {k : Kind} {s e : ℕ} {ts rest : List Token} → o ≡ Some x → After ending ss qs rest goal t (plain_expression x) (tok k s e ∷ ts)

@@ -33,15 +33,6 @@ pub plain_of_is : (goal : Option (List ℕ)) (x : Expression) → plain_statemen
 plain_of_is None x = refl
 plain_of_is (Some n) x = refl
 
--- a statement more
-pub plain_more : (ss : List Statement) (s : Statement) (more : List PlainStatement) → plain_statements (ss ++ s ∷ []) ++ more ≡ plain_statements ss ++ plain_statement s ∷ more
-plain_more [] s more = refl
-plain_more (r ∷ ss) s more = ap (λ qs. plain_statement r ∷ qs) (plain_more ss s more)
-
-pub none_more : (qs : List PlainStatement) → qs ++ [] ≡ qs
-none_more [] = refl
-none_more (q ∷ qs) = ap (λ qs. q ∷ qs) (none_more qs)
-
 -- a statement begins with an operand
 state_first : {q : PlainStatement} {k : Kind} {s e : ℕ} {ts mid : List Token} → States q (tok k s e ∷ ts) mid → (t : Target) × (operand_of k ≡ Some t)
 state_first (state_expression (expression_calls (operand_literal literal_int) c)) = (_, refl)

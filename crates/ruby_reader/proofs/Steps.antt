@@ -1,5 +1,5 @@
 -- What is left of a phrase: the relation of a reader to what it reads, by what still stands in front of it.
-use Rattle.std.proofs.Common.{◌≡◌, List, Option, Some, None}
+use Rattle.std.proofs.Common.{◌≡◌, refl, ap, List, [], ◌∷◌, ◌++◌, map, Option, Some, None}
 use Rattle.ruby_tokens.specs.declared.token.Token.{Token}
 use Rattle.ruby_reader.specs.declared.progress.Turn.{Turn}
 use Rattle.ruby_reader.specs.declared.progress.Turn.TheVariants as turn
@@ -22,3 +22,12 @@ abbrev pub Reaches : {R X Y : Type 0} → (X → Y) → (R → Y → List Token 
 Reaches plain Left None x ts rest = ⊥
 Reaches plain Left (Some (Reading r)) x ts rest = Left r x ts rest
 Reaches plain Left (Some (Read y)) x ts rest = (x ≡ plain y) × (ts ≡ rest)
+
+-- the twins of a list with one more at its end
+pub map_more : {X Y : Type 0} (f : X → Y) (xs : List X) (x : X) (ys : List Y) → map f (xs ++ x ∷ []) ++ ys ≡ map f xs ++ f x ∷ ys
+map_more f [] x ys = refl
+map_more f (y ∷ xs) x ys = ap (λ zs. f y ∷ zs) (map_more f xs x ys)
+
+pub none_more : {X : Type 0} (xs : List X) → xs ++ [] ≡ xs
+none_more [] = refl
+none_more (x ∷ xs) = ap (λ zs. x ∷ zs) (none_more xs)
