@@ -11,4 +11,5 @@ pub mod ParametersMachine
 pub mod MethodMachine
 pub mod ClassMachine
 pub mod FileMachine
+pub mod Written
 pub mod Answers

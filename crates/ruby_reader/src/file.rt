@@ -2,6 +2,7 @@
 
 ghost use Rattle.std.specs.Prelude.{◌≡◌, IfOk};
 ghost use Rattle.ruby_reader.specs.FileMachine as machine;
+ghost use Rattle.ruby_reader.specs.Written.{Written};
 
 use crate::class::ClassReader;
 use crate::list::ListReader;
@@ -145,3 +146,16 @@ impl FileReader {
     }
 }
 
+/// The program that all of the tokens write, or none where they are no text of the profile.
+pub(crate) fn program_of(alloc: Global, tokens: &[Token]) -> Result<Option<Program>, NoMemory>
+    ensures { IfOk result (Written tokens.now) }
+{
+    let mut reader = FileReader::new(alloc);
+    for token in tokens {
+        match reader.next(alloc, token)? {
+            Some(next) => reader = next,
+            None => return Ok(None),
+        }
+    }
+    reader.finish(alloc)
+}

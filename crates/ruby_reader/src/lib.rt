@@ -8,8 +8,10 @@ mod file;
 mod frames;
 mod list;
 mod method;
+mod named;
 mod parameters;
 mod progress;
+mod scopes;
 mod tall;
 mod tree;
 
