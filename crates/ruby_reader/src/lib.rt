@@ -9,10 +9,13 @@ mod frames;
 mod list;
 mod method;
 mod named;
+mod open;
 mod parameters;
 mod progress;
 mod scopes;
 mod tall;
+mod text;
 mod tree;
 
+pub use text::read;
 pub use tree::{Assignment, Definition, Expression, Literal, Opening, Program, Statement};

@@ -1,7 +1,7 @@
 //! Whether each local of a program is read in its scope, and named once, and the class of each new object is opened.
 #![tactic(auto, using(crate::specs::PlainLaws::plain_laws))]
 
-ghost use Rattle.std.specs.Prelude.{◌≡◌, ◌↔◌, List, ℕ, map, IfOk, IsTrue, MatchBool};
+ghost use Rattle.std.specs.Prelude.{◌≡◌, ◌↔◌, List, [], ℕ, map, IfOk, IsTrue, MatchBool};
 ghost use Rattle.std.specs.List.{AllByRecursion};
 ghost use Rattle.names.specs.Places.{is_among};
 ghost use Rattle.ruby_reader.specs.declared.tree.Opening.{Opening};
@@ -130,13 +130,22 @@ fn opened_names(alloc: Global, openings: &[Opening]) -> Result<Names, NoMemory>
     Ok(names)
 }
 
+/// Whether each method keeps to its scope with these classes, and so does the main part.
+fn keep_scopes(alloc: Global, classes: &Names, program: &Program) -> Result<bool, NoMemory>
+    ensures { IfOk result (λ kept. IsTrue kept ↔
+        (AllByRecursion (λ (o : PlainOpening). AllByRecursion (HasScope classes.now) o.definitions) (plain_openings program.now.openings)
+        × InScope classes.now [] (plain_statements program.now.statements))) }
+{
+    if !classes_have_scope(alloc, classes, program.openings.as_slice())? {
+        return Ok(false);
+    }
+    in_scope(classes, Names::new(alloc), program.statements.as_slice())
+}
+
 /// Whether each method keeps to its scope, and so does the main part.
 pub(crate) fn has_scopes(alloc: Global, program: &Program) -> Result<bool, NoMemory>
     ensures { IfOk result (λ kept. IsTrue kept ↔ HasScopes (plain_program program.now)) }
 {
     let classes = opened_names(alloc, program.openings.as_slice())?;
-    if !classes_have_scope(alloc, &classes, program.openings.as_slice())? {
-        return Ok(false);
-    }
-    in_scope(&classes, Names::new(alloc), program.statements.as_slice())
+    keep_scopes(alloc, &classes, program)
 }
