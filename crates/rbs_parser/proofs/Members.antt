@@ -16,7 +16,8 @@ use Rattle.sig_model.specs.PlainTy as plain
 use Rattle.sig_model.specs.PlainTy.{PlainFun, plain_ty, plain_tys, plain_fun, plain_args}
 use Rattle.sig_model.specs.PlainMember.{plain_member}
 use Rattle.sig_model.specs.PlainDecl.{PlainDecls, PlainParts, plain_decl, plain_decls, plain_parts, part_before}
-use Rattle.rbs_parser.specs.Profile.{AreParameters, HasDeclared, IsDeclared, IsKnown, IsMethodName, IsParameter, IsWellNamed, HasWellNamed, core_classes, value_classes, result_of, classes_of, method_before, methods_of, class_names}
+use Rattle.profile_words.specs.Words.{core_classes, value_classes}
+use Rattle.rbs_parser.specs.Profile.{AreParameters, HasDeclared, IsDeclared, IsKnown, IsMethodName, IsParameter, IsWellNamed, HasWellNamed, result_of, classes_of, method_before, methods_of, class_names}
 use Rattle.rbs_parser.specs.WellNamed.{MethodsLeft, ClassesLeft, MethodsOfClasses, AdmitsPart, AdmitsDecl, AdmitsMethods}
 use Rattle.rbs_parser.proofs.LexerMain.{left_at}
 use Rattle.rbs_parser.proofs.Named.{left_is, all_of_map}

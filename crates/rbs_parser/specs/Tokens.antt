@@ -1,30 +1,11 @@
 -- The tokens of signature text.
-use Rattle.std.specs.Prelude.{◌≡◌, ℕ, ◌+◌, Bool, true, false, not, ◌||◌, ◌&&◌, ◌==◌, if◌then◌else◌, List, [], ◌∷◌, codes, encode_utf8_all}
-use Rattle.std.specs.Char.{is_ascii_uppercase}
+use Rattle.std.specs.Prelude.{◌≡◌, ℕ, ◌+◌, Bool, true, not, ◌||◌, ◌==◌, if◌then◌else◌, List, [], ◌∷◌, codes, encode_utf8_all}
 use Rattle.names.specs.Places.{same_name, is_among}
+use Rattle.profile_words.specs.Words.{begins_upper, is_interface_name, keywords}
 use Rattle.source_text.specs.Characters.{is_blank, is_name_character, starts_word, width, Run}
 use Rattle.rbs_parser.specs.declared.token.Token.{Token}
 use Rattle.rbs_parser.specs.declared.token.Kind.{Kind}
 use Rattle.rbs_parser.specs.declared.token.Kind.TheVariants as kind
-
--- the words that are never a name: those of the signature language, and those of Ruby
-abbrev pub keywords : List (List ℕ)
-keywords = codes "class" ∷ codes "module" ∷ codes "interface" ∷ codes "def" ∷ codes "end" ∷ codes "include" ∷ codes "extend" ∷ codes "prepend"
-    ∷ codes "attr_reader" ∷ codes "attr_writer" ∷ codes "attr_accessor" ∷ codes "alias" ∷ codes "type" ∷ codes "private" ∷ codes "public"
-    ∷ codes "unchecked" ∷ codes "out" ∷ codes "in" ∷ codes "singleton" ∷ codes "true" ∷ codes "false" ∷ codes "nil" ∷ codes "bool" ∷ codes "void"
-    ∷ codes "top" ∷ codes "bot" ∷ codes "self" ∷ codes "instance" ∷ codes "untyped"
-    ∷ codes "if" ∷ codes "unless" ∷ codes "elsif" ∷ codes "else" ∷ codes "then" ∷ codes "while" ∷ codes "do" ∷ codes "return" ∷ codes "break"
-    ∷ codes "next" ∷ codes "yield" ∷ codes "super" ∷ codes "case" ∷ codes "for" ∷ codes "until" ∷ codes "begin" ∷ codes "rescue" ∷ codes "ensure"
-    ∷ codes "retry" ∷ codes "redo" ∷ codes "undef" ∷ codes "and" ∷ codes "or" ∷ codes "not" ∷ codes "__method__" ∷ []
-
-abbrev pub begins_upper : List ℕ → Bool
-begins_upper [] = false
-begins_upper (c ∷ cs) = is_ascii_uppercase c
-
--- the name of an interface: an underscore, and then a capital
-abbrev pub is_interface_name : List ℕ → Bool
-is_interface_name [] = false
-is_interface_name (c ∷ cs) = c == 95 && begins_upper cs
 
 -- what a word is, by its letters
 abbrev pub word_kind : List ℕ → Kind

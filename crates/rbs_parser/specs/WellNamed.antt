@@ -4,7 +4,8 @@ use Rattle.std.specs.List.{AllByRecursion}
 use Rattle.names.specs.Places.{is_among}
 use Rattle.sig_model.specs.PlainTy.{PlainFun}
 use Rattle.sig_model.specs.PlainDecl.{PlainDecl, PlainDecls, PlainParts, more_decls}
-use Rattle.rbs_parser.specs.Profile.{IsMethodName, HasDeclared, HasWellNamed, core_classes, result_of, classes_of, class_names, methods_of}
+use Rattle.profile_words.specs.Words.{core_classes}
+use Rattle.rbs_parser.specs.Profile.{IsMethodName, HasDeclared, HasWellNamed, result_of, classes_of, class_names, methods_of}
 
 -- The names of these things, behind those that were seen: none of them is among the ones before it, and each may stand.
 abbrev pub Left : {A : Type 0} → (A → List ℕ) → (A → Type 0) → List (List ℕ) → List A → Type 0

@@ -9,9 +9,9 @@ ghost use Rattle.sig_model.specs.PlainDecl.{PlainDecls, PlainParts, plain_decl, 
 ghost use Rattle.rbs_parser.specs.Profile.{AreParameters, HasDeclared, IsDeclared, IsKnown, IsMethodName, IsParameter, IsResultWord, IsWellNamed, HasWellNamed, class_before, classes_of, method_before, methods_of, class_names, result_of};
 ghost use Rattle.rbs_parser.specs.WellNamed.{AdmitsPart, AdmitsDecl, AdmitsMethods, ClassesLeft, MethodsOfClasses};
 
-use crate::words::{is_core_class, is_core_name, is_reserved, is_value_class};
 use names::Names;
 use plain_data::{NoMemory, Word};
+use profile_words::{is_core_class, is_core_name, is_reserved, is_value_class};
 use sig_model::decl::{Decl, DeclBody, Member, Part};
 use sig_model::ty::{Arg, BaseTy, FunTy, Ty, TypeName};
 use std::alloc::Global;

@@ -1,8 +1,9 @@
 -- The lexer's step where a token may begin, read backwards.
-use Rattle.std.proofs.Common.{ℕ, ◌≡◌, ◌≢◌, ◌+◌, ◌-◌, ◌≤◌, Bool, true, false, refl, sym, ◌∙◌, ap, subst, List, [], ◌∷◌, ◌++◌, length, append_assoc, arith}
+use Rattle.std.proofs.Common.{ℕ, ◌≡◌, ◌≢◌, ◌+◌, ◌-◌, ◌≤◌, Bool, true, false, refl, sym, ◌∙◌, ap, subst, List, [], ◌∷◌, ◌++◌, length, append_assoc, Some, arith}
 use Rattle.std.specs.Prelude.{if◌then◌else◌, pos}
 use Rattle.std.specs.Char.{encode_utf8, is_ascii_digit}
 use Rattle.source_text.specs.Characters.{width, Run, is_blank, starts_word}
+use Rattle.ruby_tokens.specs.declared.before.Before.{Before}
 use Rattle.ruby_tokens.specs.declared.token.Token.{Token}
 use Rattle.ruby_tokens.specs.declared.token.Kind.{Kind}
 use Rattle.ruby_tokens.specs.declared.token.Kind.TheVariants as kind
@@ -11,17 +12,14 @@ use Rattle.ruby_tokens.specs.declared.starts.Sort.{Sort}
 use Rattle.ruby_tokens.specs.declared.starts.Sort.TheVariants as sort
 use Rattle.ruby_tokens.specs.Starts.{sort_of}
 use Rattle.ruby_tokens.specs.Literals.{zero_alone, nonzero, plus, minus}
-use Rattle.ruby_tokens.specs.Tokens.{Lexes, lex_word, lex_integer, lex_single, lex_double, lex_symbol, lex_open, lex_close, lex_comma, lex_equals, lex_semicolon, lex_newline, is_in_line, Before, blank_line, in_line, after, Divides, gap, note, comment, token}
+use Rattle.ruby_tokens.specs.Tokens.{Lexes, lex_word, lex_integer, lex_single, lex_double, lex_symbol, lex_open, lex_close, lex_comma, lex_equals, lex_semicolon, is_in_line, Divides, gap, newline, note, comment, dot, token}
+use Rattle.ruby_tokens.specs.Lines.{in_line, behind_comment, next_line, dot_kind}
 use Rattle.ruby_tokens.specs.Notes.{is_type_note}
-use Rattle.ruby_tokens.specs.Machine.{with_token, begin_by, begin, limit}
+use Rattle.ruby_tokens.specs.Machine.{lexer, with_token, begin_comment, begin_by, begin, limit}
 use Rattle.ruby_tokens.proofs.Characters.{one_byte, sort_blank, digit_ascii, width_more, digit_small}
 use Rattle.ruby_tokens.proofs.From.{made, Completes, Back, begins, choose}
 use Rattle.ruby_tokens.proofs.Sorts.{Tells, tells}
 use Rattle.ruby_tokens.proofs.NoteRead.{find_note, note_is}
-
-abbrev pub before_of : Bool → Before
-before_of true = blank_line
-before_of false = in_line
 
 lexes_at : {k : Kind} {cs rest : List ℕ} (n m : ℕ) → Lexes k n cs rest → n ≡ m → Lexes k m cs rest
 lexes_at {k = k} {cs = cs} {rest = rest} n m l e = subst (λ n. Lexes k n cs rest) e l
@@ -59,63 +57,69 @@ begins_symbol cs at k n rest (v, d, e) =
     subst (λ k. Lexes k (length (encode_utf8 58) + n) (58 ∷ cs) rest) (sym e) (lexes_at (n + 1) _ (lex_symbol d) (omega (arith, one_byte 58 refl)))
 
 -- a comment on a line of its own
-elim_before : in_line ≡ blank_line → ⊥
-elim_before e = cc
+module _ {text cs rest : List ℕ} {us : List Token} (b : Before) (at m : ℕ) (r : Run is_in_line text cs rest) (e : m ≡ at + 1 + width text) (d : Divides (behind_comment b.joined) m us rest) where
+  note_line : b.blank ≡ true → is_type_note text ≡ true → Divides b at (made kind.TypeNote at m ∷ us) (35 ∷ cs)
+  note_line h t =
+      subst (λ m. Divides b at (made kind.TypeNote at m ∷ us) (35 ∷ cs)) (sym e) (note h r (find_note text t) (subst (λ m. Divides (behind_comment b.joined) m us rest) e d))
 
-note_line : {text cs rest : List ℕ} {us : List Token} (at m : ℕ) → Run is_in_line text cs rest → m ≡ at + 1 + width text → Divides in_line m us rest → is_type_note text ≡ true
-    → Divides blank_line at (made kind.TypeNote at m ∷ us) (35 ∷ cs)
-note_line {text = text} {cs = cs} {rest = rest} {us = us} at m r e d t =
-    subst (λ m. Divides blank_line at (made kind.TypeNote at m ∷ us) (35 ∷ cs)) (sym e) (note r (find_note text t) (subst (λ m. Divides in_line m us rest) e d))
+  plain_line : (b.blank ≡ true → is_type_note text ≡ false) → Divides b at us (35 ∷ cs)
+  plain_line h = comment (λ o n. let f = h o in let t : is_type_note text ≡ true = note_is n in cc) r (subst (λ m. Divides (behind_comment b.joined) m us rest) e d)
 
-plain_line : {text cs rest : List ℕ} {us : List Token} (at m : ℕ) → Run is_in_line text cs rest → m ≡ at + 1 + width text → Divides in_line m us rest → is_type_note text ≡ false
-    → Divides blank_line at us (35 ∷ cs)
-plain_line {text = text} {rest = rest} {us = us} at m r e d f = comment r (λ b n. let t : is_type_note text ≡ true = note_is n in cc) (subst (λ m. Divides in_line m us rest) e d)
-
-either_line : {text cs rest : List ℕ} {us : List Token} (ts : List Token) (at m : ℕ) → Run is_in_line text cs rest → m ≡ at + 1 + width text → Divides in_line m us rest
-    → ts ≡ (if is_type_note text then made kind.TypeNote at m ∷ us else us) → Divides blank_line at ts (35 ∷ cs)
-either_line {text = text} {cs = cs} {us = us} ts at m r e d =
-    choose (λ x. ts ≡ x → Divides blank_line at ts (35 ∷ cs)) (is_type_note text) (made kind.TypeNote at m ∷ us) us
-    (λ t i. subst (λ ts. Divides blank_line at ts (35 ∷ cs)) (sym i) (note_line at m r e d t))
-    (λ f i. subst (λ ts. Divides blank_line at ts (35 ∷ cs)) (sym i) (plain_line at m r e d f))
+  either_line : (ts : List Token) → b.blank ≡ true → ts ≡ (if is_type_note text then made kind.TypeNote at m ∷ us else us) → Divides b at ts (35 ∷ cs)
+  either_line ts h =
+      choose (λ x. ts ≡ x → Divides b at ts (35 ∷ cs)) (is_type_note text) (made kind.TypeNote at m ∷ us) us
+      (λ t i. subst (λ ts. Divides b at ts (35 ∷ cs)) (sym i) (note_line h t))
+      (λ f i. subst (λ ts. Divides b at ts (35 ∷ cs)) (sym i) (plain_line (λ o. f)))
 
 module _ (tokens : List Token) (at : ℕ) (cs : List ℕ) where
   -- what a character of a sort leads to, read backwards
-  abbrev BySort : Bool → Sort → ℕ → Type 0
-  BySort blank s c = Back (λ ts. Divides (before_of blank) at ts (c ∷ cs)) tokens at c cs (begin_by s tokens blank at c)
+  abbrev BySort : Before → Sort → ℕ → Type 0
+  BySort b s c = Back (λ ts. Divides b at ts (c ∷ cs)) tokens at c cs (begin_by s tokens b at c)
 
   -- a token of one character
-  one : (b : Before) (k : Kind) (c : ℕ) {us : List Token} → length (encode_utf8 c) ≡ 1 → Lexes k 1 (c ∷ cs) cs → Divides (after k) (at + length (encode_utf8 c)) us cs
+  one_is : (k : Kind) (us : List Token) → with_token tokens k at (at + 1) ++ us ≡ tokens ++ (made k at (at + 1) ∷ us)
+  one_is k us = append_assoc tokens (made k at (at + 1) ∷ []) us
+
+  one : (b : Before) (k : Kind) (c : ℕ) {us : List Token} → length (encode_utf8 c) ≡ 1 → Lexes k 1 (c ∷ cs) cs → Divides in_line (at + length (encode_utf8 c)) us cs
       → (ts : List Token) × (with_token tokens k at (at + 1) ++ us ≡ tokens ++ ts) × Divides b at ts (c ∷ cs)
-  one b k c {us = us} o l d = (made k at (at + 1) ∷ us, append_assoc tokens (made k at (at + 1) ∷ []) us, token l (subst (λ n. Divides (after k) (at + n) us cs) o d))
+  one b k c {us = us} o l d = (made k at (at + 1) ∷ us, one_is k us, token l (subst (λ n. Divides in_line (at + n) us cs) o d))
 
-  comment_back : (blank : Bool) → BySort blank sort.Comment 35
-  comment_back true = λ ts (w, rest, us, r, d, e). (ts, refl, either_line ts at ((at + length (encode_utf8 35)) + width w) r (omega (arith, one_byte 35 refl)) d e)
-  comment_back false = λ ts (w, rest, r, d).
-      let same : (at + length (encode_utf8 35)) + width w ≡ at + 1 + width w = omega (arith, one_byte 35 refl) in
-      (ts, refl, comment r (λ e. absurd (elim_before e)) (subst (λ n. Divides in_line n ts rest) same d))
+  newline_back : (b : Before) → BySort b sort.Newline 10
+  newline_back b = λ us d. (made kind.Newline at (at + 1) ∷ us, one_is kind.Newline us, newline (subst (λ n. Divides (next_line b) (at + n) us cs) (one_byte 10 refl) d))
 
-  blank_back : (blank : Bool) (c : ℕ) → is_blank c ≡ true → BySort blank sort.Blank c
-  blank_back true c e = λ us d. (us, refl, gap e (subst (λ n. Divides blank_line (at + n) us cs) (one_byte c (sort_blank c e).1) d))
-  blank_back false c e = λ us d. (us, refl, gap e (subst (λ n. Divides in_line (at + n) us cs) (one_byte c (sort_blank c e).1) d))
+  dot_back : (b : Before) → BySort b sort.Dot 46
+  dot_back b = λ us d. (made (dot_kind b) at (at + 1) ∷ us, one_is (dot_kind b) us, dot (subst (λ n. Divides in_line (at + n) us cs) (one_byte 46 refl) d))
 
-  by_sort : (blank : Bool) (c : ℕ) (s : Sort) → Tells c s → BySort blank s c
-  by_sort blank c sort.Nothing t = tt
-  by_sort blank c sort.Blank t = blank_back blank c t
-  by_sort blank c sort.Word t = λ us f. (us, refl, begins (before_of blank) (mode.Word at (encode_utf8 c)) c (begins_word c cs at t) f)
-  by_sort blank c sort.Digit t = λ us f. (us, refl, begins (before_of blank) (mode.Digits at false (c - 48)) c (begins_digit c cs at t.0 t.1) f)
-  by_sort blank c sort.Comment t = subst (BySort blank sort.Comment) (sym t) (comment_back blank)
-  by_sort blank c sort.Zero t = subst (BySort blank sort.Zero) (sym t) (λ us f. (us, refl, begins (before_of blank) (mode.Zero at) 48 (begins_zero cs at) f))
-  by_sort blank c sort.Minus t = subst (BySort blank sort.Minus) (sym t) (λ us f. (us, refl, begins (before_of blank) (mode.Minus at) 45 (begins_minus cs at) f))
-  by_sort blank c sort.Single t = subst (BySort blank sort.Single) (sym t) (λ us f. (us, refl, begins (before_of blank) (mode.Single at []) 39 (begins_single cs at) f))
-  by_sort blank c sort.Double t = subst (BySort blank sort.Double) (sym t) (λ us f. (us, refl, begins (before_of blank) (mode.Double at []) 34 (begins_double cs at) f))
-  by_sort blank c sort.Symbol t = subst (BySort blank sort.Symbol) (sym t) (λ us f. (us, refl, begins (before_of blank) (mode.Colon at) 58 (begins_symbol cs at) f))
-  by_sort blank c sort.Open t = subst (BySort blank sort.Open) (sym t) (λ us d. one (before_of blank) kind.Open 40 (one_byte 40 refl) lex_open d)
-  by_sort blank c sort.Close t = subst (BySort blank sort.Close) (sym t) (λ us d. one (before_of blank) kind.Close 41 (one_byte 41 refl) lex_close d)
-  by_sort blank c sort.Comma t = subst (BySort blank sort.Comma) (sym t) (λ us d. one (before_of blank) kind.Comma 44 (one_byte 44 refl) lex_comma d)
-  by_sort blank c sort.Equals t = subst (BySort blank sort.Equals) (sym t) (λ us d. one (before_of blank) kind.Equals 61 (one_byte 61 refl) lex_equals d)
-  by_sort blank c sort.Semicolon t = subst (BySort blank sort.Semicolon) (sym t) (λ us d. one (before_of blank) kind.Semicolon 59 (one_byte 59 refl) lex_semicolon d)
-  by_sort blank c sort.Newline t = subst (BySort blank sort.Newline) (sym t) (λ us d. one (before_of blank) kind.Newline 10 (one_byte 10 refl) lex_newline d)
+  comment_by : (b : Before) (k : Bool) → b.blank ≡ k → Back (λ ts. Divides b at ts (35 ∷ cs)) tokens at 35 cs (Some (lexer tokens (begin_comment k b.joined at)))
+  comment_by b true h = λ ts (w, rest, us, r, d, e). (ts, refl, either_line b at ((at + length (encode_utf8 35)) + width w) r (omega (arith, one_byte 35 refl)) d ts h e)
+  comment_by b false h = λ ts (w, rest, r, d).
+      (ts, refl, plain_line b at ((at + length (encode_utf8 35)) + width w) r (omega (arith, one_byte 35 refl)) d (λ o. let clash : true ≡ false = sym o ∙ h in cc))
+
+  comment_back : (b : Before) → BySort b sort.Comment 35
+  comment_back b = comment_by b b.blank refl
+
+  blank_back : (b : Before) (c : ℕ) → is_blank c ≡ true → BySort b sort.Blank c
+  blank_back b c e = λ us d. (us, refl, gap e (subst (λ n. Divides b (at + n) us cs) (one_byte c (sort_blank c e).1) d))
+
+  by_sort : (b : Before) (c : ℕ) (s : Sort) → Tells c s → BySort b s c
+  by_sort b c sort.Nothing t = tt
+  by_sort b c sort.Blank t = blank_back b c t
+  by_sort b c sort.Word t = λ us f. (us, refl, begins b (mode.Word at (encode_utf8 c)) c (begins_word c cs at t) f)
+  by_sort b c sort.Digit t = λ us f. (us, refl, begins b (mode.Digits at false (c - 48)) c (begins_digit c cs at t.0 t.1) f)
+  by_sort b c sort.Comment t = subst (BySort b sort.Comment) (sym t) (comment_back b)
+  by_sort b c sort.Zero t = subst (BySort b sort.Zero) (sym t) (λ us f. (us, refl, begins b (mode.Zero at) 48 (begins_zero cs at) f))
+  by_sort b c sort.Minus t = subst (BySort b sort.Minus) (sym t) (λ us f. (us, refl, begins b (mode.Minus at) 45 (begins_minus cs at) f))
+  by_sort b c sort.Single t = subst (BySort b sort.Single) (sym t) (λ us f. (us, refl, begins b (mode.Single at []) 39 (begins_single cs at) f))
+  by_sort b c sort.Double t = subst (BySort b sort.Double) (sym t) (λ us f. (us, refl, begins b (mode.Double at []) 34 (begins_double cs at) f))
+  by_sort b c sort.Symbol t = subst (BySort b sort.Symbol) (sym t) (λ us f. (us, refl, begins b (mode.Colon at) 58 (begins_symbol cs at) f))
+  by_sort b c sort.Open t = subst (BySort b sort.Open) (sym t) (λ us d. one b kind.Open 40 (one_byte 40 refl) lex_open d)
+  by_sort b c sort.Close t = subst (BySort b sort.Close) (sym t) (λ us d. one b kind.Close 41 (one_byte 41 refl) lex_close d)
+  by_sort b c sort.Comma t = subst (BySort b sort.Comma) (sym t) (λ us d. one b kind.Comma 44 (one_byte 44 refl) lex_comma d)
+  by_sort b c sort.Equals t = subst (BySort b sort.Equals) (sym t) (λ us d. one b kind.Equals 61 (one_byte 61 refl) lex_equals d)
+  by_sort b c sort.Semicolon t = subst (BySort b sort.Semicolon) (sym t) (λ us d. one b kind.Semicolon 59 (one_byte 59 refl) lex_semicolon d)
+  by_sort b c sort.Dot t = subst (BySort b sort.Dot) (sym t) (dot_back b)
+  by_sort b c sort.Newline t = subst (BySort b sort.Newline) (sym t) (newline_back b)
 
 -- where a token may begin
-pub begin_back : (tokens : List Token) (blank : Bool) (at c : ℕ) (cs : List ℕ) → Back (λ ts. Divides (before_of blank) at ts (c ∷ cs)) tokens at c cs (begin tokens blank at c)
-begin_back tokens blank at c cs = by_sort tokens at cs blank c (sort_of c) (tells c)
+pub begin_back : (tokens : List Token) (b : Before) (at c : ℕ) (cs : List ℕ) → Back (λ ts. Divides b at ts (c ∷ cs)) tokens at c cs (begin tokens b at c)
+begin_back tokens b at c cs = by_sort tokens at cs b c (sort_of c) (tells c)

@@ -5,6 +5,7 @@ use Rattle.std.specs.Char.{encode_utf8}
 use Rattle.std.proofs.Math.Nat.{add-zero}
 use Rattle.names.specs.Places.{is_among}
 use Rattle.source_text.specs.Characters.{width, Run, is_name_character}
+use Rattle.ruby_tokens.specs.declared.before.Before.{Before}
 use Rattle.ruby_tokens.specs.declared.token.Token.{Token}
 use Rattle.ruby_tokens.specs.declared.token.Kind.{Kind}
 use Rattle.ruby_tokens.specs.declared.token.Kind.TheVariants as kind
@@ -13,7 +14,8 @@ use Rattle.ruby_tokens.specs.declared.mode.Mode.TheVariants as mode
 use Rattle.ruby_tokens.specs.declared.mode.Lexer.{Lexer}
 use Rattle.ruby_tokens.specs.Words.{word_kind}
 use Rattle.ruby_tokens.specs.Literals.{Magnitude, Digits, EndsZero, negative, Single, Double, NoBrace, IsSymbol, EndsSymbol, is_mark, is_ending, operators}
-use Rattle.ruby_tokens.specs.Tokens.{Lexes, is_in_line, Before, blank_line, in_line, after, Divides, token}
+use Rattle.ruby_tokens.specs.Tokens.{Lexes, is_in_line, Divides, token}
+use Rattle.ruby_tokens.specs.Lines.{in_line, behind_comment}
 use Rattle.ruby_tokens.specs.Notes.{is_type_note}
 use Rattle.ruby_tokens.specs.Machine.{with_token, signed, limit}
 
@@ -52,16 +54,15 @@ pub record FromToken (m : Mode) (start at : ℕ) (ts : List Token) (cs : List �
   pub rest : List ℕ
   pub us : List Token
   pub completes : Completes m k n cs rest
-  pub divides : Divides (after k) (at + n) us rest
+  pub divides : Divides in_line (at + n) us rest
   pub is : ts ≡ made k start (at + n) ∷ us
 
 -- the tokens from a mode on
 abbrev pub From : Mode → ℕ → List Token → List ℕ → Type 0
-From mode.LineStart at ts cs = Divides blank_line at ts cs
-From mode.InLine at ts cs = Divides in_line at ts cs
-From mode.Comment at ts cs = (text : List ℕ) × (rest : List ℕ) × Run is_in_line text cs rest × Divides in_line (at + width text) ts rest
-From (mode.Note start text) at ts cs =
-    (w : List ℕ) × (rest : List ℕ) × (us : List Token) × Run is_in_line w cs rest × Divides in_line (at + width w) us rest
+From (mode.Between b) at ts cs = Divides b at ts cs
+From (mode.Comment joined) at ts cs = (text : List ℕ) × (rest : List ℕ) × Run is_in_line text cs rest × Divides (behind_comment joined) (at + width text) ts rest
+From (mode.Note start joined text) at ts cs =
+    (w : List ℕ) × (rest : List ℕ) × (us : List Token) × Run is_in_line w cs rest × Divides (behind_comment joined) (at + width w) us rest
     × (ts ≡ (if is_type_note (text ++ w) then made kind.TypeNote start (at + width w) ∷ us else us))
 From (mode.Word start text) at ts cs = FromToken (mode.Word start text) start at ts cs
 From (mode.Minus start) at ts cs = FromToken (mode.Minus start) start at ts cs
@@ -100,7 +101,7 @@ keeps {start = start} {at = at} m m' c more f =
       rest = f.rest;
       us = f.us;
       completes = more f.k f.n f.rest f.completes;
-      divides = subst (λ n. Divides (after f.k) n f.us f.rest) same f.divides;
+      divides = subst (λ n. Divides in_line n f.us f.rest) same f.divides;
       is = f.is ∙ ap (λ n. made f.k start n ∷ f.us) same;
     }
 
@@ -111,32 +112,32 @@ pub begins : {at : ℕ} {ts : List Token} {cs : List ℕ} (b : Before) (m : Mode
 begins {at = at} {cs = cs} b m c more f =
     let same : (at + length (encode_utf8 c)) + f.n ≡ at + (length (encode_utf8 c) + f.n) = omega arith in
     subst (λ ts. Divides b at ts (c ∷ cs)) (sym (f.is ∙ ap (λ n. made f.k at n ∷ f.us) same))
-    (token (more f.k f.n f.rest f.completes) (subst (λ n. Divides (after f.k) n f.us f.rest) same f.divides))
+    (token (more f.k f.n f.rest f.completes) (subst (λ n. Divides in_line n f.us f.rest) same f.divides))
 
 -- a token that ends where the place is
-pub closed : {start at : ℕ} {us : List Token} {cs : List ℕ} (m : Mode) (k : Kind) → Completes m k 0 cs cs → after k ≡ in_line → Divides in_line at us cs
+pub closed : {start at : ℕ} {us : List Token} {cs : List ℕ} (m : Mode) (k : Kind) → Completes m k 0 cs cs → Divides in_line at us cs
     → FromToken m start at (made k start at ∷ us) cs
-closed {start = start} {at = at} {us = us} {cs = cs} m k done e d = record {
+closed {start = start} {at = at} {us = us} {cs = cs} m k done d = record {
   k = k;
   n = 0;
   rest = cs;
   us = us;
   completes = done;
-  divides = subst (λ n. Divides (after k) n us cs) (sym (add-zero at)) (subst (λ b. Divides b at us cs) (sym e) d);
+  divides = subst (λ n. Divides in_line n us cs) (sym (add-zero at)) d;
   is = ap (λ n. made k start n ∷ us) (sym (add-zero at));
 }
 
 -- a token that ends before the character, which is taken anew
-pub ended_back : (tokens : List Token) (m : Mode) (k : Kind) (start at c : ℕ) (cs : List ℕ) (o : Option Lexer) → Completes m k 0 (c ∷ cs) (c ∷ cs) → after k ≡ in_line
+pub ended_back : (tokens : List Token) (m : Mode) (k : Kind) (start at c : ℕ) (cs : List ℕ) (o : Option Lexer) → Completes m k 0 (c ∷ cs) (c ∷ cs)
     → Back (λ ts. Divides in_line at ts (c ∷ cs)) (with_token tokens k start at) at c cs o → Back (λ ts. FromToken m start at ts (c ∷ cs)) tokens at c cs o
-ended_back tokens m k start at c cs None done e b = tt
-ended_back tokens m k start at c cs (Some l) done e b = λ us f.
-    let r = b us f in (made k start at ∷ r.0, r.1 ∙ append_assoc tokens (made k start at ∷ []) r.0, closed m k done e r.2)
+ended_back tokens m k start at c cs None done b = tt
+ended_back tokens m k start at c cs (Some l) done b = λ us f.
+    let r = b us f in (made k start at ∷ r.0, r.1 ∙ append_assoc tokens (made k start at ∷ []) r.0, closed m k done r.2)
 
 -- a character that ends its token
-pub last_back : {us : List Token} {cs : List ℕ} (tokens : List Token) (start at : ℕ) (m : Mode) (k : Kind) (c : ℕ) → length (encode_utf8 c) ≡ 1 → Completes m k 1 (c ∷ cs) cs → after k ≡ in_line
+pub last_back : {us : List Token} {cs : List ℕ} (tokens : List Token) (start at : ℕ) (m : Mode) (k : Kind) (c : ℕ) → length (encode_utf8 c) ≡ 1 → Completes m k 1 (c ∷ cs) cs
     → Divides in_line (at + length (encode_utf8 c)) us cs → (ts : List Token) × (with_token tokens k start (at + 1) ++ us ≡ tokens ++ ts) × FromToken m start at ts (c ∷ cs)
-last_back {us = us} {cs = cs} tokens start at m k c o done e d = (
+last_back {us = us} {cs = cs} tokens start at m k c o done d = (
   made k start (at + 1) ∷ us,
   append_assoc tokens (made k start (at + 1) ∷ []) us,
   record {
@@ -145,7 +146,7 @@ last_back {us = us} {cs = cs} tokens start at m k c o done e d = (
     rest = cs;
     us = us;
     completes = done;
-    divides = subst (λ n. Divides (after k) (at + n) us cs) o (subst (λ b. Divides b (at + length (encode_utf8 c)) us cs) (sym e) d);
+    divides = subst (λ n. Divides in_line (at + n) us cs) o d;
     is = refl;
   },
 )

@@ -11,6 +11,7 @@ use Rattle.ruby_tokens.specs.declared.token.Token.{Token}
 use Rattle.ruby_tokens.specs.declared.mode.Mode.TheVariants as mode
 use Rattle.ruby_tokens.specs.Tokens.{is_in_line, IsTypeNote, type_note}
 use Rattle.ruby_tokens.specs.Notes.{skip, after_letters, after_blanks, begins_colon, begins_typed_name, after_mark, is_named, is_type_note}
+use Rattle.ruby_tokens.specs.Lines.{behind_comment}
 use Rattle.ruby_tokens.specs.Machine.{lexer, noted}
 use Rattle.ruby_tokens.specs.Reads.{reads}
 use Rattle.ruby_tokens.proofs.Characters.{at_none, at_more, not_false, not_true, bool_cases, and_true}
@@ -22,27 +23,27 @@ in_line_is c e = not_false (c == 10) e
 not_in_line_is : (c : ℕ) → is_in_line c ≡ false → (c == 10) ≡ true
 not_in_line_is c e = bool_cases (c == 10) (λ h. h) (λ h. let f : is_in_line c ≡ true = rw h in cc)
 
-module _ (tokens : List Token) where
+module _ (tokens : List Token) (joined : Bool) where
   pub comment_read : {text cs rest : List ℕ} (at n : ℕ) → Run is_in_line text cs rest → n ≡ at + width text
-      → reads (lexer tokens mode.Comment) at cs ≡ reads (lexer tokens mode.InLine) n rest
-  comment_read at n run_ends f = rw (at_none at n f) (same_end (lexer tokens mode.Comment) (lexer tokens mode.InLine) at refl)
-  comment_read at n (run_stops {c = c} {cs = cs} s) f = rw (at_none at n f) (same_step (lexer tokens mode.Comment) (lexer tokens mode.InLine) at c cs (rw (not_in_line_is c s)))
+      → reads (lexer tokens (mode.Comment joined)) at cs ≡ reads (lexer tokens (mode.Between (behind_comment joined))) n rest
+  comment_read at n run_ends f = rw (at_none at n f) (same_end (lexer tokens (mode.Comment joined)) (lexer tokens (mode.Between (behind_comment joined))) at refl)
+  comment_read at n (run_stops {c = c} {cs = cs} s) f = rw (at_none at n f) (same_step (lexer tokens (mode.Comment joined)) (lexer tokens (mode.Between (behind_comment joined))) at c cs (rw (not_in_line_is c s)))
   comment_read at n (run_goes {c = c} {w = w} {cs = cs} s r) f =
-      goes (lexer tokens mode.Comment) (lexer tokens mode.Comment) at c cs (rw (in_line_is c s))
+      goes (lexer tokens (mode.Comment joined)) (lexer tokens (mode.Comment joined)) at c cs (rw (in_line_is c s))
       ∙ comment_read (at + length (encode_utf8 c)) n r (at_more at n w c f)
 
-module _ (tokens : List Token) (start : ℕ) where
+module _ (tokens : List Token) (start : ℕ) (joined : Bool) where
   note_ends : (text : List ℕ) (at : ℕ) (rest : List ℕ) → Stops is_in_line rest
-      → reads (lexer tokens (mode.Note start text)) at rest ≡ reads (lexer (noted tokens start text at) mode.InLine) at rest
-  note_ends text at [] s = same_end (lexer tokens (mode.Note start text)) (lexer (noted tokens start text at) mode.InLine) at refl
-  note_ends text at (c ∷ cs) s = same_step (lexer tokens (mode.Note start text)) (lexer (noted tokens start text at) mode.InLine) at c cs (rw (not_in_line_is c s))
+      → reads (lexer tokens (mode.Note start joined text)) at rest ≡ reads (lexer (noted tokens start text at) (mode.Between (behind_comment joined))) at rest
+  note_ends text at [] s = same_end (lexer tokens (mode.Note start joined text)) (lexer (noted tokens start text at) (mode.Between (behind_comment joined))) at refl
+  note_ends text at (c ∷ cs) s = same_step (lexer tokens (mode.Note start joined text)) (lexer (noted tokens start text at) (mode.Between (behind_comment joined))) at c cs (rw (not_in_line_is c s))
 
   pub note_read : {w cs rest : List ℕ} (text t : List ℕ) (at n : ℕ) → Run is_in_line w cs rest → t ≡ text ++ w → n ≡ at + width w
-      → reads (lexer tokens (mode.Note start text)) at cs ≡ reads (lexer (noted tokens start t n) mode.InLine) n rest
+      → reads (lexer tokens (mode.Note start joined text)) at cs ≡ reads (lexer (noted tokens start t n) (mode.Between (behind_comment joined))) n rest
   note_read text t at n run_ends e f = rw (e ∙ append-nil text, at_none at n f) (note_ends text at [] tt)
   note_read text t at n (run_stops {c = c} {cs = cs} s) e f = rw (e ∙ append-nil text, at_none at n f) (note_ends text at (c ∷ cs) s)
   note_read text t at n (run_goes {c = c} {w = w} {cs = cs} s r) e f =
-      goes (lexer tokens (mode.Note start text)) (lexer tokens (mode.Note start (text ++ c ∷ []))) at c cs (rw (in_line_is c s))
+      goes (lexer tokens (mode.Note start joined text)) (lexer tokens (mode.Note start joined (text ++ c ∷ []))) at c cs (rw (in_line_is c s))
       ∙ note_read (text ++ c ∷ []) t (at + length (encode_utf8 c)) n r (e ∙ sym (append_assoc text (c ∷ []) w)) (at_more at n w c f)
 
 -- The test for a comment that gives a type is exact.

@@ -23,6 +23,7 @@ Tells c sort.Symbol = c ≡ 58
 Tells c sort.Open = c ≡ 40
 Tells c sort.Close = c ≡ 41
 Tells c sort.Comma = c ≡ 44
+Tells c sort.Dot = c ≡ 46
 Tells c sort.Equals = c ≡ 61
 Tells c sort.Semicolon = c ≡ 59
 Tells c sort.Newline = c ≡ 10
@@ -38,9 +39,10 @@ mark_tells c =
     choose (Tells c) (c == 40) sort.Open _ (eqb-true c 40) (λ e.
     choose (Tells c) (c == 41) sort.Close _ (eqb-true c 41) (λ e.
     choose (Tells c) (c == 44) sort.Comma _ (eqb-true c 44) (λ e.
+    choose (Tells c) (c == 46) sort.Dot _ (eqb-true c 46) (λ e.
     choose (Tells c) (c == 61) sort.Equals _ (eqb-true c 61) (λ e.
     choose (Tells c) (c == 59) sort.Semicolon _ (eqb-true c 59) (λ e.
-    choose (Tells c) (c == 10) sort.Newline sort.Nothing (eqb-true c 10) (λ e. tt)))))))))))
+    choose (Tells c) (c == 10) sort.Newline sort.Nothing (eqb-true c 10) (λ e. tt))))))))))))
 
 not_zero : (c : ℕ) → (c == 48) ≡ false → c ≢ 48
 not_zero c e i = let f : (48 == 48) ≡ false = subst (λ d. (d == 48) ≡ false) i e in cc

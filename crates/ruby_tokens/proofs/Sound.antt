@@ -14,22 +14,21 @@ use Rattle.ruby_tokens.specs.declared.mode.Mode.TheVariants as mode
 use Rattle.ruby_tokens.specs.declared.mode.Lexer.{Lexer}
 use Rattle.ruby_tokens.specs.Words.{word_kind}
 use Rattle.ruby_tokens.specs.Literals.{IsSymbol, symbol_word, digits_end, operators}
-use Rattle.ruby_tokens.specs.Tokens.{blank_line, in_line, after, Divides, ended}
+use Rattle.ruby_tokens.specs.Tokens.{Divides, ended}
+use Rattle.ruby_tokens.specs.Lines.{at_start, behind_comment}
 use Rattle.ruby_tokens.specs.Notes.{is_type_note}
 use Rattle.ruby_tokens.specs.Machine.{with_token, noted, signed, step, ends}
 use Rattle.ruby_tokens.specs.Reads.{reads, first}
 use Rattle.ruby_tokens.proofs.Characters.{one_byte, width_one}
-use Rattle.ruby_tokens.proofs.Complete.{after_word}
 use Rattle.ruby_tokens.proofs.From.{made, body_word, Completes, FromToken, From, Back, choose, closed}
 use Rattle.ruby_tokens.proofs.Begins.{begin_back}
 use Rattle.ruby_tokens.proofs.Steps as steps
 use Rattle.ruby_tokens.proofs.Steps.{text_end}
 
 step_back : (tokens : List Token) (m : Mode) (at c : ℕ) (cs : List ℕ) → Back (λ ts. From m at ts (c ∷ cs)) tokens at c cs (step tokens m at c)
-step_back tokens mode.LineStart at c cs = begin_back tokens true at c cs
-step_back tokens mode.InLine at c cs = begin_back tokens false at c cs
-step_back tokens mode.Comment at c cs = steps.comment_back tokens 0 at c cs
-step_back tokens (mode.Note start text) at c cs = steps.note_back tokens start at c cs text
+step_back tokens (mode.Between b) at c cs = begin_back tokens b at c cs
+step_back tokens (mode.Comment joined) at c cs = steps.comment_back tokens 0 at c cs joined
+step_back tokens (mode.Note start joined text) at c cs = steps.note_back tokens start at c cs joined text
 step_back tokens (mode.Word start text) at c cs = steps.word_back tokens start at c cs text
 step_back tokens (mode.Minus start) at c cs = steps.minus_back tokens start at c cs
 step_back tokens (mode.Zero start) at c cs = steps.zero_back tokens start at c cs
@@ -51,8 +50,8 @@ abbrev EndBack : (List Token → Type 0) → List Token → Option (List Token) 
 EndBack G tokens None = Unit {0}
 EndBack G tokens (Some us) = (ts : List Token) × (us ≡ tokens ++ ts) × G ts
 
-last : (tokens : List Token) (m : Mode) (k : Kind) (start at : ℕ) → Completes m k 0 [] [] → after k ≡ in_line → EndBack (λ ts. FromToken m start at ts []) tokens (Some (with_token tokens k start at))
-last tokens m k start at done e = (made k start at ∷ [], refl, closed m k done e ended)
+last : (tokens : List Token) (m : Mode) (k : Kind) (start at : ℕ) → Completes m k 0 [] [] → EndBack (λ ts. FromToken m start at ts []) tokens (Some (with_token tokens k start at))
+last tokens m k start at done = (made k start at ∷ [], refl, closed m k done ended)
 
 end_here : (tokens : List Token) {G : List Token → Type 0} → G [] → EndBack G tokens (Some tokens)
 end_here tokens g = ([], sym (append-nil tokens), g)
@@ -61,8 +60,8 @@ noted_is : (tokens : List Token) (start at : ℕ) (b : Bool) → (if b then with
 noted_is tokens start at true = refl
 noted_is tokens start at false = sym (append-nil tokens)
 
-note_end : (tokens : List Token) (start at : ℕ) (text : List ℕ) → EndBack (λ ts. From (mode.Note start text) at ts []) tokens (Some (noted tokens start text at))
-note_end tokens start at text =
+note_end : (tokens : List Token) (start : ℕ) (joined : Bool) (at : ℕ) (text : List ℕ) → EndBack (λ ts. From (mode.Note start joined text) at ts []) tokens (Some (noted tokens start text at))
+note_end tokens start joined at text =
     let ts : List Token = if is_type_note text then made kind.TypeNote start at ∷ [] else [] in (
       ts,
       noted_is tokens start at (is_type_note text),
@@ -71,7 +70,7 @@ note_end tokens start at text =
         [],
         [],
         run_ends,
-        subst (λ n. Divides in_line n [] []) (sym (add-zero at)) ended,
+        subst (λ n. Divides (behind_comment joined) n [] []) (sym (add-zero at)) ended,
         ap (λ n. if is_type_note text then made kind.TypeNote start n ∷ [] else []) (sym (add-zero at))
             ∙ ap (λ t. if is_type_note t then made kind.TypeNote start (at + 0) ∷ [] else []) (sym (append-nil text)),
       ),
@@ -81,18 +80,17 @@ under_end : IsSymbol (95 ∷ []) 1 (95 ∷ []) []
 under_end = subst (λ n. IsSymbol (95 ∷ []) n (95 ∷ []) []) (width_one 95 ∙ one_byte 95 refl) (symbol_word refl run_ends tt tt)
 
 ends_back : (tokens : List Token) (m : Mode) (at : ℕ) → EndBack (λ ts. From m at ts []) tokens (ends tokens m at)
-ends_back tokens mode.LineStart at = end_here tokens ended
-ends_back tokens mode.InLine at = end_here tokens ended
-ends_back tokens mode.Comment at = end_here tokens ([], [], run_ends, ended)
-ends_back tokens (mode.Note start text) at = note_end tokens start at text
-ends_back tokens (mode.Word start text) at = last tokens (mode.Word start text) (word_kind text) start at ([], run_ends, text_end word_kind text, refl) (after_word text)
-ends_back tokens (mode.Zero start) at = last tokens (mode.Zero start) (kind.Integer (pos 0)) start at (refl, tt, refl, refl) refl
-ends_back tokens (mode.Digits start minus q) at = last tokens (mode.Digits start minus q) (kind.Integer (signed minus q)) start at (q, digits_end tt, (λ l. l), refl) refl
-ends_back tokens (mode.Under start) at = last tokens (mode.Under start) (kind.Symbol (encode_utf8 95)) start at (95 ∷ [], under_end, ap kind.Symbol (sym (append-nil (encode_utf8 95)))) refl
-ends_back tokens (mode.SymbolWord start text) at = last tokens (mode.SymbolWord start text) (kind.Symbol text) start at ([], body_word run_ends tt, text_end kind.Symbol text) refl
-ends_back tokens (mode.SymbolEnding start text) at = last tokens (mode.SymbolEnding start text) (kind.Symbol text) start at (refl, tt, refl, refl) refl
+ends_back tokens (mode.Between b) at = end_here tokens ended
+ends_back tokens (mode.Comment joined) at = end_here tokens ([], [], run_ends, ended)
+ends_back tokens (mode.Note start joined text) at = note_end tokens start joined at text
+ends_back tokens (mode.Word start text) at = last tokens (mode.Word start text) (word_kind text) start at ([], run_ends, text_end word_kind text, refl)
+ends_back tokens (mode.Zero start) at = last tokens (mode.Zero start) (kind.Integer (pos 0)) start at (refl, tt, refl, refl)
+ends_back tokens (mode.Digits start minus q) at = last tokens (mode.Digits start minus q) (kind.Integer (signed minus q)) start at (q, digits_end tt, (λ l. l), refl)
+ends_back tokens (mode.Under start) at = last tokens (mode.Under start) (kind.Symbol (encode_utf8 95)) start at (95 ∷ [], under_end, ap kind.Symbol (sym (append-nil (encode_utf8 95))))
+ends_back tokens (mode.SymbolWord start text) at = last tokens (mode.SymbolWord start text) (kind.Symbol text) start at ([], body_word run_ends tt, text_end kind.Symbol text)
+ends_back tokens (mode.SymbolEnding start text) at = last tokens (mode.SymbolEnding start text) (kind.Symbol text) start at (refl, tt, refl, refl)
 ends_back tokens (mode.SymbolOperator start text) at = choose (EndBack (λ ts. FromToken (mode.SymbolOperator start text) start at ts []) tokens) (is_among text operators) (Some (with_token tokens (kind.Symbol text) start at)) None
-    (λ o. last tokens (mode.SymbolOperator start text) (kind.Symbol text) start at ([], run_ends, subst (λ t. is_among t operators ≡ true) (sym (append-nil text)) o, text_end kind.Symbol text, refl) refl)
+    (λ o. last tokens (mode.SymbolOperator start text) (kind.Symbol text) start at ([], run_ends, subst (λ t. is_among t operators ≡ true) (sym (append-nil text)) o, text_end kind.Symbol text, refl))
     (λ o. tt)
 ends_back tokens (mode.Minus start) at = tt
 ends_back tokens (mode.Underscore start minus q) at = tt
@@ -125,5 +123,5 @@ unfolding reads
 read_back [] l at us e = from_end l.tokens us (ends l.tokens l.mode at) (ends_back l.tokens l.mode at) e
 read_back (c ∷ cs) l at us e = from_step l.tokens us at c cs (step l.tokens l.mode at c) (step_back l.tokens l.mode at c cs) (λ m f. read_back cs m (at + length (encode_utf8 c)) us f) e
 
-pub reads_divides : (cs : List ℕ) (us : List Token) → reads first 0 cs ≡ Some us → Divides blank_line 0 us cs
-reads_divides cs us e = let r = read_back cs first 0 us e in subst (λ ts. Divides blank_line 0 ts cs) (sym r.1) r.2
+pub reads_divides : (cs : List ℕ) (us : List Token) → reads first 0 cs ≡ Some us → Divides at_start 0 us cs
+reads_divides cs us e = let r = read_back cs first 0 us e in subst (λ ts. Divides at_start 0 ts cs) (sym r.1) r.2

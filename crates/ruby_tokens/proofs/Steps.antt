@@ -15,13 +15,13 @@ use Rattle.ruby_tokens.specs.declared.mode.Mode.TheVariants as mode
 use Rattle.ruby_tokens.specs.declared.mode.Lexer.{Lexer}
 use Rattle.ruby_tokens.specs.Words.{word_kind}
 use Rattle.ruby_tokens.specs.Literals.{Magnitude, zero_alone, nonzero, Digits, digits_end, digits_more, digits_under, Single, single_end, single_plain, single_quote, single_backslash, single_other, is_single_plain, Double, double_end, double_plain, double_hash, double_escape, is_double_plain, IsEscape, escape_newline, escape_tab, escape_quote, escape_backslash, escape_hash, IsSymbol, symbol_word, symbol_ending, symbol_operator, NotInterface, is_mark, is_ending, operators}
-use Rattle.ruby_tokens.specs.Tokens.{is_in_line, in_line, after, Divides}
+use Rattle.ruby_tokens.specs.Tokens.{is_in_line, Divides}
+use Rattle.ruby_tokens.specs.Lines.{in_line, behind_comment}
 use Rattle.ruby_tokens.specs.Notes.{is_type_note}
-use Rattle.ruby_tokens.specs.Machine.{lexer, with_token, noted, limit, signed, digit, goes_on_from_zero, in_comment, in_note, in_word, in_minus, in_zero, in_digits, in_underscore, in_single, in_single_escape, in_double, escaped, escape, in_double_escape, in_double_hash, in_symbol_word, in_symbol_ending, in_symbol_operator, in_colon, in_under, behind, begin}
+use Rattle.ruby_tokens.specs.Machine.{lexer, between, with_token, noted, limit, signed, digit, goes_on_from_zero, in_comment, in_note, in_word, in_minus, in_zero, in_digits, in_underscore, in_single, in_single_escape, in_double, escaped, escape, in_double_escape, in_double_hash, in_symbol_word, in_symbol_ending, in_symbol_operator, in_colon, in_under, behind, begin}
 use Rattle.ruby_tokens.proofs.Characters.{one_byte, digit_ascii, digit_small, width_more, width_one, or_cases, or_false, ending_mark}
 use Rattle.ruby_tokens.proofs.TextRead.{escape_one}
 use Rattle.ruby_tokens.proofs.SymbolRead.{marks_bytes}
-use Rattle.ruby_tokens.proofs.Complete.{after_word}
 use Rattle.ruby_tokens.proofs.From.{made, Body, body_word, body_ending, Completes, FromToken, From, Back, choose, keeps, ended_back, last_back}
 use Rattle.ruby_tokens.proofs.Begins.{begin_back}
 
@@ -113,8 +113,8 @@ module _ (tokens : List Token) (start at c : ℕ) (cs : List ℕ) where
   Behind m o = Back (λ ts. FromToken m start at ts (c ∷ cs)) tokens at c cs o
 
   -- a token that ended before the character
-  behind_back : (m : Mode) (k : Kind) → Completes m k 0 (c ∷ cs) (c ∷ cs) → after k ≡ in_line → Behind m (behind tokens k start at c)
-  behind_back m k done e = ended_back tokens m k start at c cs (behind tokens k start at c) done e (begin_back (with_token tokens k start at) false at c cs)
+  behind_back : (m : Mode) (k : Kind) → Completes m k 0 (c ∷ cs) (c ∷ cs) → Behind m (behind tokens k start at c)
+  behind_back m k done = ended_back tokens m k start at c cs (behind tokens k start at c) done (begin_back (with_token tokens k start at) in_line at c cs)
 
   -- a mode that goes on
   abbrev More : Mode → Mode → Type 0
@@ -131,7 +131,7 @@ module _ (tokens : List Token) (start at c : ℕ) (cs : List ℕ) where
   word_back text = choose (Behind (mode.Word start text)) (is_name_character c) (Some (lexer tokens (mode.Word start (text ++ encode_utf8 c)))) (behind tokens (word_kind text) start at c)
       (λ p us f. on (mode.Word start text) (mode.Word start (text ++ encode_utf8 c)) us f (λ k n rest (w, r, e, i).
       (c ∷ w, run_goes p r, text_as word_kind k text w c e, ap (λ n. length (encode_utf8 c) + n) i ∙ sym (width_more c w))))
-      (λ p. behind_back (mode.Word start text) (word_kind text) ([], run_stops p, text_end word_kind text, refl) (after_word text))
+      (λ p. behind_back (mode.Word start text) (word_kind text) ([], run_stops p, text_end word_kind text, refl))
 
   -- Numbers.
   digit_back : (m : Mode) (minus : Bool) (q : ℕ) → (q * 10 + (c - 48) ≤ limit minus → More m (mode.Digits start minus (q * 10 + (c - 48)))) → Behind m (digit tokens start minus q c)
@@ -141,7 +141,7 @@ module _ (tokens : List Token) (start at c : ℕ) (cs : List ℕ) where
 
   pub zero_back : Behind (mode.Zero start) (in_zero tokens start at c)
   zero_back = choose (Behind (mode.Zero start)) (goes_on_from_zero c) None (behind tokens (kind.Integer (pos 0)) start at c)
-      (λ p. tt) (λ p. behind_back (mode.Zero start) (kind.Integer (pos 0)) (refl, p, refl, refl) refl)
+      (λ p. tt) (λ p. behind_back (mode.Zero start) (kind.Integer (pos 0)) (refl, p, refl, refl))
 
   -- where an underscore follows
   under_at : (minus : Bool) (q : ℕ) → c ≡ 95 → More (mode.Digits start minus q) (mode.Underscore start minus q)
@@ -155,7 +155,7 @@ module _ (tokens : List Token) (start at c : ℕ) (cs : List ℕ) where
       (v, digits_at (n + 1) _ (digits_more d ds) (omega (arith, one_byte c (digit_ascii c d))), (λ _. l p), e)))
       (λ d. choose (Behind (mode.Digits start minus q)) (c == 95) (Some (lexer tokens (mode.Underscore start minus q))) (behind tokens (kind.Integer (signed minus q)) start at c)
       (λ u us f. on (mode.Digits start minus q) (mode.Underscore start minus q) us f (under_at minus q (eqb-true c 95 u)))
-      (λ u. behind_back (mode.Digits start minus q) (kind.Integer (signed minus q)) (q, digits_end (both_false (is_ascii_digit c) (c == 95) d u), (λ l. l), refl) refl))
+      (λ u. behind_back (mode.Digits start minus q) (kind.Integer (signed minus q)) (q, digits_end (both_false (is_ascii_digit c) (c == 95) d u), (λ l. l), refl)))
 
   pub underscore_back : (minus : Bool) (q : ℕ) → Behind (mode.Underscore start minus q) (in_underscore tokens start minus q c)
   underscore_back minus q = choose (Behind (mode.Underscore start minus q)) (is_ascii_digit c) (digit tokens start minus q c) None
@@ -184,14 +184,14 @@ module _ (tokens : List Token) (start at c : ℕ) (cs : List ℕ) where
   single_last : (text : List ℕ) → c ≡ 39 → (us : List Token) → Divides in_line (at + length (encode_utf8 c)) us cs
       → (ts : List Token) × (with_token tokens (kind.Text text) start (at + 1) ++ us ≡ tokens ++ ts) × FromToken (mode.Single start text) start at ts (c ∷ cs)
   single_last text e us d = last_back tokens start at (mode.Single start text) (kind.Text text) c (ap (λ c. length (encode_utf8 c)) e ∙ one_byte 39 refl)
-      ([], subst (λ c. Single [] 1 (c ∷ cs) cs) (sym e) single_end, text_end kind.Text text) refl d
+      ([], subst (λ c. Single [] 1 (c ∷ cs) cs) (sym e) single_end, text_end kind.Text text) d
 
   single_slash : (text : List ℕ) → c ≡ 92 → More (mode.Single start text) (mode.SingleEscape start text)
   single_slash text b k n rest (v, d, e) =
       (v, subst (λ c. Single v (length (encode_utf8 c) + n) (c ∷ cs) rest) (sym b) (single_at (1 + n) _ d (omega (arith, one_byte 92 refl))), e)
 
   pub single_back : (text : List ℕ) → Behind (mode.Single start text) (in_single tokens start text at c)
-  single_back text = choose (Behind (mode.Single start text)) (c == 39) (Some (lexer (with_token tokens (kind.Text text) start (at + 1)) mode.InLine))
+  single_back text = choose (Behind (mode.Single start text)) (c == 39) (Some (lexer (with_token tokens (kind.Text text) start (at + 1)) between))
       (if c == 92 then Some (lexer tokens (mode.SingleEscape start text)) else Some (lexer tokens (mode.Single start (text ++ encode_utf8 c))))
       (λ q us d. single_last text (eqb-true c 39 q) us d)
       (λ q. choose (Behind (mode.Single start text)) (c == 92) (Some (lexer tokens (mode.SingleEscape start text))) (Some (lexer tokens (mode.Single start (text ++ encode_utf8 c))))
@@ -215,7 +215,7 @@ module _ (tokens : List Token) (start at c : ℕ) (cs : List ℕ) where
   double_last : (text : List ℕ) → c ≡ 34 → (us : List Token) → Divides in_line (at + length (encode_utf8 c)) us cs
       → (ts : List Token) × (with_token tokens (kind.Text text) start (at + 1) ++ us ≡ tokens ++ ts) × FromToken (mode.Double start text) start at ts (c ∷ cs)
   double_last text e us d = last_back tokens start at (mode.Double start text) (kind.Text text) c (ap (λ c. length (encode_utf8 c)) e ∙ one_byte 34 refl)
-      ([], subst (λ c. Double [] 1 (c ∷ cs) cs) (sym e) double_end, text_end kind.Text text) refl d
+      ([], subst (λ c. Double [] 1 (c ∷ cs) cs) (sym e) double_end, text_end kind.Text text) d
 
   double_slash : (text : List ℕ) → c ≡ 92 → More (mode.Double start text) (mode.DoubleEscape start text)
   double_slash text b k n rest (v, d, e) =
@@ -226,7 +226,7 @@ module _ (tokens : List Token) (start at c : ℕ) (cs : List ℕ) where
       (35 ∷ v, subst (λ c. Double (35 ∷ v) (length (encode_utf8 c) + n) (c ∷ cs) rest) (sym b) (double_at (1 + n) _ (double_hash h d) (omega (arith, one_byte 35 refl))), text_as kind.Text k text v 35 e)
 
   pub double_back : (text : List ℕ) → Behind (mode.Double start text) (in_double tokens start text at c)
-  double_back text = choose (Behind (mode.Double start text)) (c == 34) (Some (lexer (with_token tokens (kind.Text text) start (at + 1)) mode.InLine))
+  double_back text = choose (Behind (mode.Double start text)) (c == 34) (Some (lexer (with_token tokens (kind.Text text) start (at + 1)) between))
       (if c == 92 then Some (lexer tokens (mode.DoubleEscape start text)) else if c == 35 then Some (lexer tokens (mode.DoubleHash start (text ++ encode_utf8 35))) else Some (lexer tokens (mode.Double start (text ++ encode_utf8 c))))
       (λ q us d. double_last text (eqb-true c 34 q) us d)
       (λ q. choose (Behind (mode.Double start text)) (c == 92) (Some (lexer tokens (mode.DoubleEscape start text)))
@@ -262,7 +262,7 @@ module _ (tokens : List Token) (start at c : ℕ) (cs : List ℕ) where
 
   pub symbol_ending_back : (text : List ℕ) → Behind (mode.SymbolEnding start text) (in_symbol_ending tokens start text at c)
   symbol_ending_back text = choose (Behind (mode.SymbolEnding start text)) (is_mark c) None (behind tokens (kind.Symbol text) start at c)
-      (λ m. tt) (λ m. behind_back (mode.SymbolEnding start text) (kind.Symbol text) (refl, m, refl, refl) refl)
+      (λ m. tt) (λ m. behind_back (mode.SymbolEnding start text) (kind.Symbol text) (refl, m, refl, refl))
 
   pub symbol_word_back : (text : List ℕ) → Behind (mode.SymbolWord start text) (in_symbol_word tokens start text at c)
   symbol_word_back text = choose (Behind (mode.SymbolWord start text)) (is_name_character c) (Some (lexer tokens (mode.SymbolWord start (text ++ encode_utf8 c))))
@@ -272,7 +272,7 @@ module _ (tokens : List Token) (start at c : ℕ) (cs : List ℕ) where
       (λ i us f. on (mode.SymbolWord start text) (mode.SymbolEnding start (text ++ encode_utf8 c)) us f (ending_at text p i))
       (λ i. choose (Behind (mode.SymbolWord start text)) (is_mark c) None (behind tokens (kind.Symbol text) start at c)
       (λ m. tt)
-      (λ m. behind_back (mode.SymbolWord start text) (kind.Symbol text) ([], body_word (run_stops p) m, text_end kind.Symbol text) refl)))
+      (λ m. behind_back (mode.SymbolWord start text) (kind.Symbol text) ([], body_word (run_stops p) m, text_end kind.Symbol text))))
 
   pub symbol_operator_back : (text : List ℕ) → Behind (mode.SymbolOperator start text) (in_symbol_operator tokens start text at c)
   symbol_operator_back text = choose (Behind (mode.SymbolOperator start text)) (is_mark c) (Some (lexer tokens (mode.SymbolOperator start (text ++ encode_utf8 c))))
@@ -280,7 +280,7 @@ module _ (tokens : List Token) (start at c : ℕ) (cs : List ℕ) where
       (λ m us f. on (mode.SymbolOperator start text) (mode.SymbolOperator start (text ++ encode_utf8 c)) us f (λ k n rest (w, r, o, e, i).
       (c ∷ w, run_goes m r, among_at _ _ (append_assoc text (encode_utf8 c) (encode_utf8_all w)) o, text_as kind.Symbol k text w c e, ap (λ n. length (encode_utf8 c) + n) i ∙ sym (width_more c w))))
       (λ m. choose (Behind (mode.SymbolOperator start text)) (is_among text operators) (behind tokens (kind.Symbol text) start at c) None
-      (λ o. behind_back (mode.SymbolOperator start text) (kind.Symbol text) ([], run_stops m, among_at _ _ (sym (append-nil text)) o, text_end kind.Symbol text, refl) refl)
+      (λ o. behind_back (mode.SymbolOperator start text) (kind.Symbol text) ([], run_stops m, among_at _ _ (sym (append-nil text)) o, text_end kind.Symbol text, refl))
       (λ o. tt))
 
   under_mark : c ≡ 95 → More (mode.Colon start) (mode.Under start)
@@ -307,47 +307,52 @@ module _ (tokens : List Token) (start at c : ℕ) (cs : List ℕ) where
       (λ k n rest (v, b, e). (95 ∷ v, symbol_at _ _ (symbol_of n 95 refl (λ w rest r. under_free c r u) b) (omega (arith, one_byte 95 refl)), e)) (symbol_word_back (encode_utf8 95)))
 
   -- Comments.
-  pub comment_back : Back (λ ts. From mode.Comment at ts (c ∷ cs)) tokens at c cs (in_comment tokens at c)
-  comment_back = choose (Back (λ ts. From mode.Comment at ts (c ∷ cs)) tokens at c cs) (c == 10) (begin tokens false at c) (Some (lexer tokens mode.Comment))
-      (λ e. back_map tokens at c cs (begin tokens false at c) (λ ts d. ([], c ∷ cs, run_stops (no_line c e), subst (λ n. Divides in_line n ts (c ∷ cs)) (sym (add-zero at)) d)) (begin_back tokens false at c cs))
-      (λ e us (w, rest, r, d). (us, refl, (c ∷ w, rest, run_goes (in_line_char c e) r, subst (λ n. Divides in_line n us rest) (omega (arith, width_more c w)) d)))
+  pub comment_back : (joined : Bool) → Back (λ ts. From (mode.Comment joined) at ts (c ∷ cs)) tokens at c cs (in_comment tokens joined at c)
+  comment_back joined = choose (Back (λ ts. From (mode.Comment joined) at ts (c ∷ cs)) tokens at c cs) (c == 10) (begin tokens (behind_comment joined) at c) (Some (lexer tokens (mode.Comment joined)))
+      (λ e. back_map tokens at c cs (begin tokens (behind_comment joined) at c) (λ ts d. ([], c ∷ cs, run_stops (no_line c e), subst (λ n. Divides (behind_comment joined) n ts (c ∷ cs)) (sym (add-zero at)) d))
+      (begin_back tokens (behind_comment joined) at c cs))
+      (λ e us (w, rest, r, d). (us, refl, (c ∷ w, rest, run_goes (in_line_char c e) r, subst (λ n. Divides (behind_comment joined) n us rest) (omega (arith, width_more c w)) d)))
 
   -- the tokens where a comment ends, and those behind it
   noted_append : (b : Bool) (us : List Token) → (if b then with_token tokens kind.TypeNote start at else tokens) ++ us ≡ tokens ++ (if b then made kind.TypeNote start at ∷ us else us)
   noted_append true us = append_assoc tokens (made kind.TypeNote start at ∷ []) us
   noted_append false us = refl
 
-  note_ended : (text : List ℕ) (ts us : List Token) → (c == 10) ≡ true → ts ≡ (if is_type_note text then made kind.TypeNote start at ∷ us else us) → Divides in_line at us (c ∷ cs) → From (mode.Note start text) at ts (c ∷ cs)
-  note_ended text ts us e i d = (
-    [],
-    c ∷ cs,
-    us,
-    run_stops (no_line c e),
-    subst (λ n. Divides in_line n us (c ∷ cs)) (sym (add-zero at)) d,
-    i ∙ ap (λ n. if is_type_note text then made kind.TypeNote start n ∷ us else us) (sym (add-zero at)) ∙ ap (λ t. if is_type_note t then made kind.TypeNote start (at + 0) ∷ us else us) (sym (append-nil text)),
-  )
+  module _ (joined : Bool) where
+    note_ended : (text : List ℕ) (ts us : List Token) → (c == 10) ≡ true → ts ≡ (if is_type_note text then made kind.TypeNote start at ∷ us else us) → Divides (behind_comment joined) at us (c ∷ cs)
+        → From (mode.Note start joined text) at ts (c ∷ cs)
+    note_ended text ts us e i d = (
+      [],
+      c ∷ cs,
+      us,
+      run_stops (no_line c e),
+      subst (λ n. Divides (behind_comment joined) n us (c ∷ cs)) (sym (add-zero at)) d,
+      i ∙ ap (λ n. if is_type_note text then made kind.TypeNote start n ∷ us else us) (sym (add-zero at)) ∙ ap (λ t. if is_type_note t then made kind.TypeNote start (at + 0) ∷ us else us) (sym (append-nil text)),
+    )
 
-  note_begun : (text : List ℕ) (o : Option Lexer) → (c == 10) ≡ true → Back (λ ts. Divides in_line at ts (c ∷ cs)) (noted tokens start text at) at c cs o → Back (λ ts. From (mode.Note start text) at ts (c ∷ cs)) tokens at c cs o
-  note_begun text None e b = tt
-  note_begun text (Some l) e b = λ us f.
-      let r = b us f in
-      let ts : List Token = if is_type_note text then made kind.TypeNote start at ∷ r.0 else r.0 in
-      (ts, r.1 ∙ noted_append (is_type_note text) r.0, note_ended text ts r.0 e refl r.2)
+    note_begun : (text : List ℕ) (o : Option Lexer) → (c == 10) ≡ true → Back (λ ts. Divides (behind_comment joined) at ts (c ∷ cs)) (noted tokens start text at) at c cs o
+        → Back (λ ts. From (mode.Note start joined text) at ts (c ∷ cs)) tokens at c cs o
+    note_begun text None e b = tt
+    note_begun text (Some l) e b = λ us f.
+        let r = b us f in
+        let ts : List Token = if is_type_note text then made kind.TypeNote start at ∷ r.0 else r.0 in
+        (ts, r.1 ∙ noted_append (is_type_note text) r.0, note_ended text ts r.0 e refl r.2)
 
-  pub note_back : (text : List ℕ) → Back (λ ts. From (mode.Note start text) at ts (c ∷ cs)) tokens at c cs (in_note tokens start text at c)
-  note_back text = choose (Back (λ ts. From (mode.Note start text) at ts (c ∷ cs)) tokens at c cs) (c == 10) (begin (noted tokens start text at) false at c) (Some (lexer tokens (mode.Note start (text ++ c ∷ []))))
-      (λ e. note_begun text (begin (noted tokens start text at) false at c) e (begin_back (noted tokens start text at) false at c cs))
-      (λ e ts (w, rest, us, r, d, i).
-      let same : (at + length (encode_utf8 c)) + width w ≡ at + width (c ∷ w) = omega (arith, width_more c w) in (
-        ts,
-        refl,
-        (
-          c ∷ w,
-          rest,
-          us,
-          run_goes (in_line_char c e) r,
-          subst (λ n. Divides in_line n us rest) same d,
-          i ∙ ap (λ n. if is_type_note ((text ++ c ∷ []) ++ w) then made kind.TypeNote start n ∷ us else us) same
-              ∙ ap (λ t. if is_type_note t then made kind.TypeNote start (at + width (c ∷ w)) ∷ us else us) (append_assoc text (c ∷ []) w),
-        ),
-      ))
+    pub note_back : (text : List ℕ) → Back (λ ts. From (mode.Note start joined text) at ts (c ∷ cs)) tokens at c cs (in_note tokens start joined text at c)
+    note_back text = choose (Back (λ ts. From (mode.Note start joined text) at ts (c ∷ cs)) tokens at c cs) (c == 10)
+        (begin (noted tokens start text at) (behind_comment joined) at c) (Some (lexer tokens (mode.Note start joined (text ++ c ∷ []))))
+        (λ e. note_begun text (begin (noted tokens start text at) (behind_comment joined) at c) e (begin_back (noted tokens start text at) (behind_comment joined) at c cs))
+        (λ e ts (w, rest, us, r, d, i).
+        let same : (at + length (encode_utf8 c)) + width w ≡ at + width (c ∷ w) = omega (arith, width_more c w) in (
+          ts,
+          refl,
+          (
+            c ∷ w,
+            rest,
+            us,
+            run_goes (in_line_char c e) r,
+            subst (λ n. Divides (behind_comment joined) n us rest) same d,
+            i ∙ ap (λ n. if is_type_note ((text ++ c ∷ []) ++ w) then made kind.TypeNote start n ∷ us else us) same
+                ∙ ap (λ t. if is_type_note t then made kind.TypeNote start (at + width (c ∷ w)) ∷ us else us) (append_assoc text (c ∷ []) w),
+          ),
+        ))

@@ -11,7 +11,7 @@ use Rattle.ruby_tokens.specs.declared.token.Token.{Token}
 use Rattle.ruby_tokens.specs.declared.token.Kind.TheVariants as kind
 use Rattle.ruby_tokens.specs.declared.mode.Mode.TheVariants as mode
 use Rattle.ruby_tokens.specs.Literals.{IsSymbol, symbol_word, symbol_ending, symbol_operator, EndsSymbol, NotInterface, is_mark, is_ending, operators}
-use Rattle.ruby_tokens.specs.Machine.{step, lexer, with_token}
+use Rattle.ruby_tokens.specs.Machine.{step, lexer, between, with_token}
 use Rattle.ruby_tokens.specs.Reads.{reads}
 use Rattle.ruby_tokens.proofs.Characters.{one_byte, at_more, bool_cases, mark_plain, no_ending, upper_name, ending_mark}
 use Rattle.ruby_tokens.proofs.Runs.{Stops, stops, run_read, goes, same_step, same_end}
@@ -19,19 +19,19 @@ use Rattle.ruby_tokens.proofs.Runs.{Stops, stops, run_read, goes, same_step, sam
 module _ (tokens : List Token) (start : ℕ) where
   -- where a symbol's name ends
   word_ends : (text : List ℕ) (at : ℕ) (rest : List ℕ) → Stops is_name_character rest → EndsSymbol rest
-      → reads (lexer tokens (mode.SymbolWord start text)) at rest ≡ reads (lexer (with_token tokens (kind.Symbol text) start at) mode.InLine) at rest
-  word_ends text at [] s e = same_end (lexer tokens (mode.SymbolWord start text)) (lexer (with_token tokens (kind.Symbol text) start at) mode.InLine) at refl
-  word_ends text at (c ∷ cs) s e = same_step (lexer tokens (mode.SymbolWord start text)) (lexer (with_token tokens (kind.Symbol text) start at) mode.InLine) at c cs (rw (s, no_ending c e, e))
+      → reads (lexer tokens (mode.SymbolWord start text)) at rest ≡ reads (lexer (with_token tokens (kind.Symbol text) start at) between) at rest
+  word_ends text at [] s e = same_end (lexer tokens (mode.SymbolWord start text)) (lexer (with_token tokens (kind.Symbol text) start at) between) at refl
+  word_ends text at (c ∷ cs) s e = same_step (lexer tokens (mode.SymbolWord start text)) (lexer (with_token tokens (kind.Symbol text) start at) between) at c cs (rw (s, no_ending c e, e))
 
   ending_ends : (text : List ℕ) (at : ℕ) (rest : List ℕ) → EndsSymbol rest
-      → reads (lexer tokens (mode.SymbolEnding start text)) at rest ≡ reads (lexer (with_token tokens (kind.Symbol text) start at) mode.InLine) at rest
-  ending_ends text at [] e = same_end (lexer tokens (mode.SymbolEnding start text)) (lexer (with_token tokens (kind.Symbol text) start at) mode.InLine) at refl
-  ending_ends text at (c ∷ cs) e = same_step (lexer tokens (mode.SymbolEnding start text)) (lexer (with_token tokens (kind.Symbol text) start at) mode.InLine) at c cs (rw e)
+      → reads (lexer tokens (mode.SymbolEnding start text)) at rest ≡ reads (lexer (with_token tokens (kind.Symbol text) start at) between) at rest
+  ending_ends text at [] e = same_end (lexer tokens (mode.SymbolEnding start text)) (lexer (with_token tokens (kind.Symbol text) start at) between) at refl
+  ending_ends text at (c ∷ cs) e = same_step (lexer tokens (mode.SymbolEnding start text)) (lexer (with_token tokens (kind.Symbol text) start at) between) at c cs (rw e)
 
   operator_ends : (text : List ℕ) (at : ℕ) (rest : List ℕ) → Stops is_mark rest → is_among text operators ≡ true
-      → reads (lexer tokens (mode.SymbolOperator start text)) at rest ≡ reads (lexer (with_token tokens (kind.Symbol text) start at) mode.InLine) at rest
-  operator_ends text at [] s e = same_end (lexer tokens (mode.SymbolOperator start text)) (lexer (with_token tokens (kind.Symbol text) start at) mode.InLine) at (rw e)
-  operator_ends text at (c ∷ cs) s e = same_step (lexer tokens (mode.SymbolOperator start text)) (lexer (with_token tokens (kind.Symbol text) start at) mode.InLine) at c cs (rw (s, e))
+      → reads (lexer tokens (mode.SymbolOperator start text)) at rest ≡ reads (lexer (with_token tokens (kind.Symbol text) start at) between) at rest
+  operator_ends text at [] s e = same_end (lexer tokens (mode.SymbolOperator start text)) (lexer (with_token tokens (kind.Symbol text) start at) between) at (rw e)
+  operator_ends text at (c ∷ cs) s e = same_step (lexer tokens (mode.SymbolOperator start text)) (lexer (with_token tokens (kind.Symbol text) start at) between) at c cs (rw (s, e))
 
   -- an underscore that no capital follows begins a name
   under_read : {w cs rest : List ℕ} (at : ℕ) → Run is_name_character w cs rest → NotInterface 95 w
@@ -59,7 +59,7 @@ module _ (tokens : List Token) (start : ℕ) where
 
   -- the mark at the end of a name
   mark_read : (text : List ℕ) (at d : ℕ) (rest : List ℕ) → is_name_character d ≡ false → is_ending d ≡ true → EndsSymbol rest
-      → reads (lexer tokens (mode.SymbolWord start text)) at (d ∷ rest) ≡ reads (lexer (with_token tokens (kind.Symbol (text ++ encode_utf8 d)) start (at + length (encode_utf8 d))) mode.InLine) (at + length (encode_utf8 d)) rest
+      → reads (lexer tokens (mode.SymbolWord start text)) at (d ∷ rest) ≡ reads (lexer (with_token tokens (kind.Symbol (text ++ encode_utf8 d)) start (at + length (encode_utf8 d))) between) (at + length (encode_utf8 d)) rest
   mark_read text at d rest s i e =
       goes (lexer tokens (mode.SymbolWord start text)) (lexer tokens (mode.SymbolEnding start (text ++ encode_utf8 d))) at d rest (rw (s, i))
       ∙ ending_ends (text ++ encode_utf8 d) (at + length (encode_utf8 d)) rest e
@@ -79,7 +79,7 @@ marks_bytes (run_goes {c = c} {w = w} e r) = ap (λ t. t ++ encode_utf8_all w) (
 
 module _ (tokens : List Token) (start : ℕ) where
   pub symbol_read : {v cs rest : List ℕ} {n : ℕ} (at m : ℕ) → IsSymbol v n cs rest → m ≡ at + n
-      → reads (lexer tokens (mode.Colon start)) at cs ≡ reads (lexer (with_token tokens (kind.Symbol (encode_utf8_all v)) start m) mode.InLine) m rest
+      → reads (lexer tokens (mode.Colon start)) at cs ≡ reads (lexer (with_token tokens (kind.Symbol (encode_utf8_all v)) start m) between) m rest
   symbol_read at m (symbol_word {c = c} {w = w} {cs = cs} {rest = rest} s r h e) f =
       first_read tokens start at c s r h
       ∙ body_read tokens start (encode_utf8 c) (encode_utf8_all (c ∷ w)) (at + length (encode_utf8 c)) m r refl (at_more at m w c f)
@@ -92,8 +92,8 @@ module _ (tokens : List Token) (start : ℕ) where
       first_read tokens start at c s r h
       ∙ body_read tokens start (encode_utf8 c) (encode_utf8_all (c ∷ w)) (at + length (encode_utf8 c)) before r refl (at_more at before w c refl)
       ∙ mark_read tokens start (encode_utf8_all (c ∷ w)) before d rest (stops r) i e
-      ∙ ap (λ k. reads (lexer (with_token tokens (kind.Symbol (encode_utf8_all (c ∷ w) ++ encode_utf8 d)) start k) mode.InLine) k rest) end
-      ∙ ap (λ t. reads (lexer (with_token tokens (kind.Symbol t) start m) mode.InLine) m rest) name
+      ∙ ap (λ k. reads (lexer (with_token tokens (kind.Symbol (encode_utf8_all (c ∷ w) ++ encode_utf8 d)) start k) between) k rest) end
+      ∙ ap (λ t. reads (lexer (with_token tokens (kind.Symbol t) start m) between) m rest) name
   symbol_read at m (symbol_operator run_ends o) f = cc
   symbol_read at m (symbol_operator (run_stops s) o) f = cc
   symbol_read at m (symbol_operator {rest = rest} (run_goes {c = c} {w = w} {cs = cs} s r) o) f =

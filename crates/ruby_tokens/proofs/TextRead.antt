@@ -6,7 +6,7 @@ use Rattle.ruby_tokens.specs.declared.token.Token.{Token}
 use Rattle.ruby_tokens.specs.declared.token.Kind.TheVariants as kind
 use Rattle.ruby_tokens.specs.declared.mode.Mode.TheVariants as mode
 use Rattle.ruby_tokens.specs.Literals.{Single, single_end, single_plain, single_quote, single_backslash, single_other, is_single_plain, Double, double_end, double_plain, double_hash, double_escape, is_double_plain, IsEscape, escape_newline, escape_tab, escape_quote, escape_backslash, escape_hash, NoBrace}
-use Rattle.ruby_tokens.specs.Machine.{step, lexer, with_token, escaped}
+use Rattle.ruby_tokens.specs.Machine.{step, lexer, between, with_token, escaped}
 use Rattle.ruby_tokens.specs.Reads.{reads}
 use Rattle.ruby_tokens.proofs.Characters.{one_byte, width_one, text_more, text_none, and_true, not_false, not_equal}
 use Rattle.ruby_tokens.proofs.Runs.{goes, same_step, same_end}
@@ -20,10 +20,10 @@ escape_step tokens start text at c e = let both = and_true (not (c == 39)) (not 
 
 module _ (tokens : List Token) (start : ℕ) where
   pub single_read : {v cs rest : List ℕ} {n : ℕ} (text t : List ℕ) (at m : ℕ) → Single v n cs rest → t ≡ text ++ encode_utf8_all v → m ≡ at + n
-      → reads (lexer tokens (mode.Single start text)) at cs ≡ reads (lexer (with_token tokens (kind.Text t) start m) mode.InLine) m rest
+      → reads (lexer tokens (mode.Single start text)) at cs ≡ reads (lexer (with_token tokens (kind.Text t) start m) between) m rest
   single_read text t at m (single_end {rest = rest}) e f =
-      rw (text_none text t e, f) (goes (lexer tokens (mode.Single start text)) (lexer (with_token tokens (kind.Text text) start (at + 1)) mode.InLine) at 39 rest refl
-      ∙ ap (λ n. reads (lexer (with_token tokens (kind.Text text) start (at + 1)) mode.InLine) (at + n) rest) (one_byte 39 refl))
+      rw (text_none text t e, f) (goes (lexer tokens (mode.Single start text)) (lexer (with_token tokens (kind.Text text) start (at + 1)) between) at 39 rest refl
+      ∙ ap (λ n. reads (lexer (with_token tokens (kind.Text text) start (at + 1)) between) (at + n) rest) (one_byte 39 refl))
   single_read text t at m (single_plain {c = c} {v = v} {cs = cs} p d k) e f =
       goes (lexer tokens (mode.Single start text)) (lexer tokens (mode.Single start (text ++ encode_utf8 c))) at c cs (single_step tokens start text at c p)
       ∙ single_read (text ++ encode_utf8 c) t (at + length (encode_utf8 c)) m d (text_more text v t c e) (omega (arith, width_one c))
@@ -70,10 +70,10 @@ module _ (tokens : List Token) (start : ℕ) where
   hash_read text at (c ∷ cs) h = same_step (lexer tokens (mode.DoubleHash start text)) (lexer tokens (mode.Double start text)) at c cs (rw (not_equal c 123 h))
 
   pub double_read : {v cs rest : List ℕ} {n : ℕ} (text t : List ℕ) (at m : ℕ) → Double v n cs rest → t ≡ text ++ encode_utf8_all v → m ≡ at + n
-      → reads (lexer tokens (mode.Double start text)) at cs ≡ reads (lexer (with_token tokens (kind.Text t) start m) mode.InLine) m rest
+      → reads (lexer tokens (mode.Double start text)) at cs ≡ reads (lexer (with_token tokens (kind.Text t) start m) between) m rest
   double_read text t at m (double_end {rest = rest}) e f =
-      rw (text_none text t e, f) (goes (lexer tokens (mode.Double start text)) (lexer (with_token tokens (kind.Text text) start (at + 1)) mode.InLine) at 34 rest refl
-      ∙ ap (λ n. reads (lexer (with_token tokens (kind.Text text) start (at + 1)) mode.InLine) (at + n) rest) (one_byte 34 refl))
+      rw (text_none text t e, f) (goes (lexer tokens (mode.Double start text)) (lexer (with_token tokens (kind.Text text) start (at + 1)) between) at 34 rest refl
+      ∙ ap (λ n. reads (lexer (with_token tokens (kind.Text text) start (at + 1)) between) (at + n) rest) (one_byte 34 refl))
   double_read text t at m (double_plain {c = c} {v = v} {cs = cs} p d k) e f =
       goes (lexer tokens (mode.Double start text)) (lexer tokens (mode.Double start (text ++ encode_utf8 c))) at c cs (double_step tokens start text at c p)
       ∙ double_read (text ++ encode_utf8 c) t (at + length (encode_utf8 c)) m d (text_more text v t c e) (omega (arith, width_one c))

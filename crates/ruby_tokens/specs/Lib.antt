@@ -1,4 +1,5 @@
 pub mod Words
+pub mod Lines
 pub mod Literals
 pub mod Tokens
 pub mod Starts

@@ -3,6 +3,7 @@ use Rattle.std.specs.Prelude.{ℕ, ◌+◌, ◌*◌, ◌-◌, ◌^◌, Bool, tru
 use Rattle.std.specs.Char.{is_ascii_digit, is_ascii_uppercase}
 use Rattle.names.specs.Places.{is_among}
 use Rattle.source_text.specs.Characters.{is_name_character, starts_word}
+use Rattle.ruby_tokens.specs.declared.before.Before.{Before}
 use Rattle.ruby_tokens.specs.declared.token.Token.{Token}
 use Rattle.ruby_tokens.specs.declared.token.Kind.{Kind}
 use Rattle.ruby_tokens.specs.declared.token.Kind.TheVariants as kind
@@ -13,59 +14,64 @@ use Rattle.ruby_tokens.specs.declared.starts.Sort.{Sort}
 use Rattle.ruby_tokens.specs.declared.starts.Sort.TheVariants as sort
 use Rattle.ruby_tokens.specs.Starts.{sort_of}
 use Rattle.ruby_tokens.specs.Words.{word_kind}
+use Rattle.ruby_tokens.specs.Lines.{in_line, behind_comment, next_line, dot_kind}
 use Rattle.ruby_tokens.specs.Literals.{negative, is_mark, is_ending, operators}
 use Rattle.ruby_tokens.specs.Notes.{is_type_note}
 
 abbrev pub lexer : List Token → Mode → Lexer
 lexer tokens m = record { tokens = tokens; mode = m }
 
+-- behind a token that is no newline
+abbrev pub between : Mode
+between = mode.Between in_line
+
 -- the tokens and one more
 abbrev pub with_token : List Token → Kind → ℕ → ℕ → List Token
 with_token tokens k start end = tokens ++ record { kind = k; start = start; end = end } ∷ []
 
-abbrev pub between : Bool → Mode
-between true = mode.LineStart
-between false = mode.InLine
+-- a comment by whether nothing but blanks stands before it on its line
+abbrev pub begin_comment : Bool → Bool → ℕ → Mode
+begin_comment true joined at = mode.Note at joined []
+begin_comment false joined at = mode.Comment joined
 
-abbrev pub begin_comment : Bool → ℕ → Mode
-begin_comment true at = mode.Note at []
-begin_comment false at = mode.Comment
+-- a character where a token may begin, behind what `b` says
+abbrev pub begin_by : Sort → List Token → Before → ℕ → ℕ → Option Lexer
+begin_by sort.Blank tokens b at c = Some (lexer tokens (mode.Between b))
+begin_by sort.Comment tokens b at c = Some (lexer tokens (begin_comment b.blank b.joined at))
+begin_by sort.Word tokens b at c = Some (lexer tokens (mode.Word at (encode_utf8 c)))
+begin_by sort.Zero tokens b at c = Some (lexer tokens (mode.Zero at))
+begin_by sort.Digit tokens b at c = Some (lexer tokens (mode.Digits at false (c - 48)))
+begin_by sort.Minus tokens b at c = Some (lexer tokens (mode.Minus at))
+begin_by sort.Single tokens b at c = Some (lexer tokens (mode.Single at []))
+begin_by sort.Double tokens b at c = Some (lexer tokens (mode.Double at []))
+begin_by sort.Symbol tokens b at c = Some (lexer tokens (mode.Colon at))
+begin_by sort.Open tokens b at c = Some (lexer (with_token tokens kind.Open at (at + 1)) between)
+begin_by sort.Close tokens b at c = Some (lexer (with_token tokens kind.Close at (at + 1)) between)
+begin_by sort.Comma tokens b at c = Some (lexer (with_token tokens kind.Comma at (at + 1)) between)
+begin_by sort.Equals tokens b at c = Some (lexer (with_token tokens kind.Equals at (at + 1)) between)
+begin_by sort.Semicolon tokens b at c = Some (lexer (with_token tokens kind.Semicolon at (at + 1)) between)
+begin_by sort.Dot tokens b at c = Some (lexer (with_token tokens (dot_kind b) at (at + 1)) between)
+begin_by sort.Newline tokens b at c = Some (lexer (with_token tokens kind.Newline at (at + 1)) (mode.Between (next_line b)))
+begin_by sort.Nothing tokens b at c = None
 
--- a character where a token may begin; `blank` says that only blanks stand before it on its line
-abbrev pub begin_by : Sort → List Token → Bool → ℕ → ℕ → Option Lexer
-begin_by sort.Blank tokens blank at c = Some (lexer tokens (between blank))
-begin_by sort.Comment tokens blank at c = Some (lexer tokens (begin_comment blank at))
-begin_by sort.Word tokens blank at c = Some (lexer tokens (mode.Word at (encode_utf8 c)))
-begin_by sort.Zero tokens blank at c = Some (lexer tokens (mode.Zero at))
-begin_by sort.Digit tokens blank at c = Some (lexer tokens (mode.Digits at false (c - 48)))
-begin_by sort.Minus tokens blank at c = Some (lexer tokens (mode.Minus at))
-begin_by sort.Single tokens blank at c = Some (lexer tokens (mode.Single at []))
-begin_by sort.Double tokens blank at c = Some (lexer tokens (mode.Double at []))
-begin_by sort.Symbol tokens blank at c = Some (lexer tokens (mode.Colon at))
-begin_by sort.Open tokens blank at c = Some (lexer (with_token tokens kind.Open at (at + 1)) mode.InLine)
-begin_by sort.Close tokens blank at c = Some (lexer (with_token tokens kind.Close at (at + 1)) mode.InLine)
-begin_by sort.Comma tokens blank at c = Some (lexer (with_token tokens kind.Comma at (at + 1)) mode.InLine)
-begin_by sort.Equals tokens blank at c = Some (lexer (with_token tokens kind.Equals at (at + 1)) mode.InLine)
-begin_by sort.Semicolon tokens blank at c = Some (lexer (with_token tokens kind.Semicolon at (at + 1)) mode.InLine)
-begin_by sort.Newline tokens blank at c = Some (lexer (with_token tokens kind.Newline at (at + 1)) mode.LineStart)
-begin_by sort.Nothing tokens blank at c = None
-
-abbrev pub begin : List Token → Bool → ℕ → ℕ → Option Lexer
-begin tokens blank at c = begin_by (sort_of c) tokens blank at c
+abbrev pub begin : List Token → Before → ℕ → ℕ → Option Lexer
+begin tokens b at c = begin_by (sort_of c) tokens b at c
 
 -- a character behind a token, which ends there
 abbrev pub behind : List Token → Kind → ℕ → ℕ → ℕ → Option Lexer
-behind tokens k start at c = begin (with_token tokens k start at) false at c
+behind tokens k start at c = begin (with_token tokens k start at) in_line at c
 
 -- the tokens where a comment on a line of its own ends
 abbrev pub noted : List Token → ℕ → List ℕ → ℕ → List Token
 noted tokens start text at = if is_type_note text then with_token tokens kind.TypeNote start at else tokens
 
-abbrev pub in_comment : List Token → ℕ → ℕ → Option Lexer
-in_comment tokens at c = if c == 10 then begin tokens false at c else Some (lexer tokens mode.Comment)
+abbrev pub in_comment : List Token → Bool → ℕ → ℕ → Option Lexer
+in_comment tokens joined at c = if c == 10 then begin tokens (behind_comment joined) at c else Some (lexer tokens (mode.Comment joined))
 
-abbrev pub in_note : List Token → ℕ → List ℕ → ℕ → ℕ → Option Lexer
-in_note tokens start text at c = if c == 10 then begin (noted tokens start text at) false at c else Some (lexer tokens (mode.Note start (text ++ c ∷ [])))
+abbrev pub in_note : List Token → ℕ → Bool → List ℕ → ℕ → ℕ → Option Lexer
+in_note tokens start joined text at c =
+    if c == 10 then begin (noted tokens start text at) (behind_comment joined) at c
+    else Some (lexer tokens (mode.Note start joined (text ++ c ∷ [])))
 
 abbrev pub in_word : List Token → ℕ → List ℕ → ℕ → ℕ → Option Lexer
 in_word tokens start text at c = if is_name_character c then Some (lexer tokens (mode.Word start (text ++ encode_utf8 c))) else behind tokens (word_kind text) start at c
@@ -103,7 +109,7 @@ in_underscore tokens start minus m c = if is_ascii_digit c then digit tokens sta
 
 abbrev pub in_single : List Token → ℕ → List ℕ → ℕ → ℕ → Option Lexer
 in_single tokens start text at c =
-    if c == 39 then Some (lexer (with_token tokens (kind.Text text) start (at + 1)) mode.InLine)
+    if c == 39 then Some (lexer (with_token tokens (kind.Text text) start (at + 1)) between)
     else if c == 92 then Some (lexer tokens (mode.SingleEscape start text))
     else Some (lexer tokens (mode.Single start (text ++ encode_utf8 c)))
 
@@ -114,7 +120,7 @@ in_single_escape tokens start text c =
 
 abbrev pub in_double : List Token → ℕ → List ℕ → ℕ → ℕ → Option Lexer
 in_double tokens start text at c =
-    if c == 34 then Some (lexer (with_token tokens (kind.Text text) start (at + 1)) mode.InLine)
+    if c == 34 then Some (lexer (with_token tokens (kind.Text text) start (at + 1)) between)
     else if c == 92 then Some (lexer tokens (mode.DoubleEscape start text))
     else if c == 35 then Some (lexer tokens (mode.DoubleHash start (text ++ encode_utf8 35)))
     else Some (lexer tokens (mode.Double start (text ++ encode_utf8 c)))
@@ -166,10 +172,9 @@ abbrev pub in_under : List Token → ℕ → ℕ → ℕ → Option Lexer
 in_under tokens start at c = if is_ascii_uppercase c then None else in_symbol_word tokens start (encode_utf8 95) at c
 
 abbrev pub step : List Token → Mode → ℕ → ℕ → Option Lexer
-step tokens mode.LineStart at c = begin tokens true at c
-step tokens mode.InLine at c = begin tokens false at c
-step tokens mode.Comment at c = in_comment tokens at c
-step tokens (mode.Note start text) at c = in_note tokens start text at c
+step tokens (mode.Between b) at c = begin tokens b at c
+step tokens (mode.Comment joined) at c = in_comment tokens joined at c
+step tokens (mode.Note start joined text) at c = in_note tokens start joined text at c
 step tokens (mode.Word start text) at c = in_word tokens start text at c
 step tokens (mode.Minus start) at c = in_minus tokens start c
 step tokens (mode.Zero start) at c = in_zero tokens start at c
@@ -188,10 +193,9 @@ step tokens (mode.SymbolOperator start text) at c = in_symbol_operator tokens st
 
 -- the tokens where the text ends
 abbrev pub ends : List Token → Mode → ℕ → Option (List Token)
-ends tokens mode.LineStart at = Some tokens
-ends tokens mode.InLine at = Some tokens
-ends tokens mode.Comment at = Some tokens
-ends tokens (mode.Note start text) at = Some (noted tokens start text at)
+ends tokens (mode.Between b) at = Some tokens
+ends tokens (mode.Comment joined) at = Some tokens
+ends tokens (mode.Note start joined text) at = Some (noted tokens start text at)
 ends tokens (mode.Word start text) at = Some (with_token tokens (word_kind text) start at)
 ends tokens (mode.Zero start) at = Some (with_token tokens (kind.Integer (pos 0)) start at)
 ends tokens (mode.Digits start minus m) at = Some (with_token tokens (kind.Integer (signed minus m)) start at)

@@ -15,6 +15,7 @@ mark_sort c =
     else if c == 40 then sort.Open
     else if c == 41 then sort.Close
     else if c == 44 then sort.Comma
+    else if c == 46 then sort.Dot
     else if c == 61 then sort.Equals
     else if c == 59 then sort.Semicolon
     else if c == 10 then sort.Newline

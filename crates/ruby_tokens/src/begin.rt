@@ -5,6 +5,7 @@ ghost use Rattle.ruby_tokens.specs.Machine as machine;
 ghost use Rattle.ruby_tokens.specs.Does.{Does, IsFit};
 
 use crate::appended::{with_character, with_token};
+use crate::before::{Before, dot_kind, in_line, next_line};
 use crate::mode::{Lexer, Mode};
 use crate::numbers::first_digit;
 use crate::refused::Refused;
@@ -13,25 +14,28 @@ use crate::token::{Kind, Token};
 use plain_data::{Many, Word};
 use std::alloc::Global;
 
-fn between(blank: bool) -> Mode
-    ensures value { result ≡ machine.between blank }
+fn begin_comment(alloc: Global, before: Before, at: u32) -> Mode
+    ensures value { result ≡ machine.begin_comment before.blank before.joined at }
     ensures fit { IsFit result }
 {
-    if blank { Mode::LineStart } else { Mode::InLine }
-}
-
-fn begin_comment(alloc: Global, blank: bool, at: u32) -> Mode
-    ensures value { result ≡ machine.begin_comment blank at }
-    ensures fit { IsFit result }
-{
+    let Before { blank, joined } = before;
     if blank {
         Mode::Note {
             start: at,
+            joined,
             text: Many::new(alloc),
         }
     } else {
-        Mode::Comment
+        Mode::Comment { joined }
     }
+}
+
+/// Behind a token that is no newline.
+fn between() -> Mode
+    ensures value { result ≡ machine.between }
+    ensures fit { IsFit result }
+{
+    Mode::Between(in_line())
 }
 
 /// The lexer in this mode.
@@ -51,37 +55,36 @@ fn one(tokens: Many<Token>, kind: Kind, at: u32, mode: Mode) -> Result<Lexer, Re
     stands(with_token(tokens, kind, at, at + 1)?, mode)
 }
 
-/// The character `c` stands at `at`, where a token may begin; `blank` says that only blanks stand
-/// before it on its line.
+/// The character `c` stands at `at`, where a token may begin, behind what `before` says.
 pub fn begin(
     alloc: Global,
     tokens: Many<Token>,
-    blank: bool,
+    before: Before,
     at: u32,
     c: char,
 ) -> Result<Lexer, Refused>
     requires { at + 1 < 2 ^ 32 }
-    ensures { Does (machine.begin tokens blank at c) result }
+    ensures { Does (machine.begin tokens before at c) result }
 {
-    begin_by(alloc, sort_of(c), tokens, blank, at, c)
+    begin_by(alloc, sort_of(c), tokens, before, at, c)
 }
 
 fn begin_by(
     alloc: Global,
     sort: Sort,
     tokens: Many<Token>,
-    blank: bool,
+    before: Before,
     at: u32,
     c: char,
 ) -> Result<Lexer, Refused>
     requires { at + 1 < 2 ^ 32 }
-    ensures { Does (machine.begin_by sort tokens blank at c) result }
+    ensures { Does (machine.begin_by sort tokens before at c) result }
 {
     let start = at;
     let text = Word::new(alloc);
     match sort {
-        Sort::Blank => stands(tokens, between(blank)),
-        Sort::Comment => stands(tokens, begin_comment(alloc, blank, at)),
+        Sort::Blank => stands(tokens, Mode::Between(before)),
+        Sort::Comment => stands(tokens, begin_comment(alloc, before, at)),
         Sort::Word => {
             let text = with_character(text, c)?;
             stands(tokens, Mode::Word { start, text })
@@ -92,12 +95,13 @@ fn begin_by(
         Sort::Single => stands(tokens, Mode::Single { start, text }),
         Sort::Double => stands(tokens, Mode::Double { start, text }),
         Sort::Symbol => stands(tokens, Mode::Colon { start }),
-        Sort::Open => one(tokens, Kind::Open, at, Mode::InLine),
-        Sort::Close => one(tokens, Kind::Close, at, Mode::InLine),
-        Sort::Comma => one(tokens, Kind::Comma, at, Mode::InLine),
-        Sort::Equals => one(tokens, Kind::Equals, at, Mode::InLine),
-        Sort::Semicolon => one(tokens, Kind::Semicolon, at, Mode::InLine),
-        Sort::Newline => one(tokens, Kind::Newline, at, Mode::LineStart),
+        Sort::Open => one(tokens, Kind::Open, at, between()),
+        Sort::Close => one(tokens, Kind::Close, at, between()),
+        Sort::Comma => one(tokens, Kind::Comma, at, between()),
+        Sort::Equals => one(tokens, Kind::Equals, at, between()),
+        Sort::Semicolon => one(tokens, Kind::Semicolon, at, between()),
+        Sort::Dot => one(tokens, dot_kind(before), at, between()),
+        Sort::Newline => one(tokens, Kind::Newline, at, Mode::Between(next_line(before))),
         Sort::Nothing => Err(Refused::NoToken),
     }
 }
@@ -115,5 +119,5 @@ pub fn behind(
     ensures { Does (machine.behind tokens kind start at c) result }
 {
     let tokens = with_token(tokens, kind, start, at)?;
-    begin(alloc, tokens, false, at, c)
+    begin(alloc, tokens, in_line(), at, c)
 }

@@ -27,10 +27,13 @@ pub fn step(alloc: Global, lexer: Lexer, at: u32, c: char) -> Result<Lexer, Refu
 {
     let Lexer { tokens, mode } = lexer;
     match mode {
-        Mode::LineStart => begin(alloc, tokens, true, at, c),
-        Mode::InLine => begin(alloc, tokens, false, at, c),
-        Mode::Comment => in_comment(alloc, tokens, at, c),
-        Mode::Note { start, text } => in_note(alloc, tokens, start, text, at, c),
+        Mode::Between(before) => begin(alloc, tokens, before, at, c),
+        Mode::Comment { joined } => in_comment(alloc, tokens, joined, at, c),
+        Mode::Note {
+            start,
+            joined,
+            text,
+        } => in_note(alloc, tokens, start, joined, text, at, c),
         Mode::Word { start, text } => in_word(alloc, tokens, start, text, at, c),
         Mode::Minus { start } => in_minus(tokens, start, c),
         Mode::Zero { start } => in_zero(alloc, tokens, start, at, c),
@@ -66,8 +69,8 @@ pub fn ends(alloc: Global, lexer: Lexer, at: u32) -> Result<Many<Token>, Refused
 {
     let Lexer { tokens, mode } = lexer;
     match mode {
-        Mode::LineStart | Mode::InLine | Mode::Comment => Ok(tokens),
-        Mode::Note { start, text } => Ok(noted(tokens, start, &text, at)?),
+        Mode::Between(_) | Mode::Comment { .. } => Ok(tokens),
+        Mode::Note { start, text, .. } => Ok(noted(tokens, start, &text, at)?),
         Mode::Word { start, text } => Ok(with_token(tokens, word_kind(text), start, at)?),
         Mode::Zero { start } => Ok(with_token(tokens, Kind::Integer(0), start, at)?),
         Mode::Digits {

@@ -2,6 +2,7 @@
 #![tactic(auto)]
 
 mod appended;
+mod before;
 mod begin;
 mod lexer;
 mod listed;

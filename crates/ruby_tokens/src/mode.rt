@@ -1,20 +1,22 @@
 //! What the lexer knows between two characters.
 
+use crate::before::Before;
 use crate::token::Token;
 use plain_data::{Many, Word};
 
 /// What was read of a token or a comment. `start` is where it begins, in bytes.
 #[derive(Debug, Drop)]
 pub enum Mode {
-    /// Between tokens, where only blanks stand before on the line.
-    LineStart,
-    /// Between tokens, elsewhere.
-    InLine,
-    /// In a comment that gives no type.
-    Comment,
-    /// In a comment on a line of its own: what stands behind its `#`.
+    /// Between tokens.
+    Between(Before),
+    /// In a comment that gives no type; `joined` is as before it.
+    Comment {
+        joined: bool,
+    },
+    /// In a comment on a line of its own; `joined` is as before it, and `text` what stands behind its `#`.
     Note {
         start: u32,
+        joined: bool,
         text: Many<char>,
     },
     Word {

@@ -8,6 +8,7 @@ ghost use Rattle.source_text.specs.Characters.{is_blank, is_name_character};
 ghost use Rattle.ruby_tokens.specs.Notes.{skip, after_letters, after_blanks, begins_typed_name, begins_colon, after_mark, is_type_note};
 
 use crate::appended::with_token;
+use crate::before::behind_comment;
 use crate::begin::begin;
 use crate::mode::{Lexer, Mode};
 use crate::refused::Refused;
@@ -121,16 +122,22 @@ pub fn noted(
 }
 
 /// In a comment that gives no type.
-pub fn in_comment(alloc: Global, tokens: Many<Token>, at: u32, c: char) -> Result<Lexer, Refused>
+pub fn in_comment(
+    alloc: Global,
+    tokens: Many<Token>,
+    joined: bool,
+    at: u32,
+    c: char,
+) -> Result<Lexer, Refused>
     requires { at + 1 < 2 ^ 32 }
-    ensures { Does (machine.in_comment tokens at c) result }
+    ensures { Does (machine.in_comment tokens joined at c) result }
 {
     if c == '\n' {
-        return begin(alloc, tokens, false, at, c);
+        return begin(alloc, tokens, behind_comment(joined), at, c);
     }
     Ok(Lexer {
         tokens,
-        mode: Mode::Comment,
+        mode: Mode::Comment { joined },
     })
 }
 
@@ -139,21 +146,26 @@ pub fn in_note(
     alloc: Global,
     tokens: Many<Token>,
     start: u32,
+    joined: bool,
     text: Many<char>,
     at: u32,
     c: char,
 ) -> Result<Lexer, Refused>
     requires { at + 1 < 2 ^ 32 }
-    ensures { Does (machine.in_note tokens start text at c) result }
+    ensures { Does (machine.in_note tokens start joined text at c) result }
 {
     if c == '\n' {
         let tokens = noted(tokens, start, &text, at)?;
-        return begin(alloc, tokens, false, at, c);
+        return begin(alloc, tokens, behind_comment(joined), at, c);
     }
     let mut text = text;
     text.push(c)?;
     Ok(Lexer {
         tokens,
-        mode: Mode::Note { start, text },
+        mode: Mode::Note {
+            start,
+            joined,
+            text,
+        },
     })
 }

@@ -6,6 +6,7 @@ ghost use Rattle.ruby_tokens.specs.Machine.{escaped};
 ghost use Rattle.ruby_tokens.specs.Does.{Does};
 
 use crate::appended::{with_character, with_token};
+use crate::before::in_line;
 use crate::mode::{Lexer, Mode};
 use crate::refused::Refused;
 use crate::token::{Kind, Token};
@@ -26,7 +27,7 @@ pub fn in_single(
         let tokens = with_token(tokens, Kind::Text(text), start, at + 1)?;
         return Ok(Lexer {
             tokens,
-            mode: Mode::InLine,
+            mode: Mode::Between(in_line()),
         });
     }
     if c == '\\' {
@@ -80,7 +81,7 @@ pub fn in_double(
         let tokens = with_token(tokens, Kind::Text(text), start, at + 1)?;
         return Ok(Lexer {
             tokens,
-            mode: Mode::InLine,
+            mode: Mode::Between(in_line()),
         });
     }
     if c == '\\' {

@@ -27,6 +27,8 @@ fn shown(alloc: Global, text: &[u8]) -> Result<Option<String>, Fail>
             Kind::Open => format!(in alloc; "(")?,
             Kind::Close => format!(in alloc; ")")?,
             Kind::Comma => format!(in alloc; ",")?,
+            Kind::Dot => format!(in alloc; ".")?,
+            Kind::LeadingDot => format!(in alloc; "leading .")?,
             Kind::Equals => format!(in alloc; "=")?,
             Kind::Semicolon => format!(in alloc; ";")?,
             Kind::Newline => format!(in alloc; "newline")?,
@@ -112,6 +114,110 @@ fn found(rt: HostRuntime) -> Result<(), Fail> {
         ("a,\n:b", "name a 0-1, , 1-2, newline 2-3, symbol b 3-5, "),
         ("x==-1", "name x 0-1, = 1-2, = 2-3, -1 3-5, "),
         ("", ""),
+    ];
+    for (text, expected) in texts {
+        if text.len() < 100 {
+            assert_eq!(rt;
+                shown(alloc, text.as_bytes())?.ok_or("none")?.as_str(),
+                expected
+            );
+        }
+    }
+    Ok(())
+}
+
+#[test]
+fn dots(rt: HostRuntime) -> Result<(), Fail> {
+    let alloc = rt.alloc();
+    let texts: [(&str, &str); 15] = [
+        ("a.b", "name a 0-1, . 1-2, name b 2-3, "),
+        ("1.5", "1 0-1, . 1-2, 5 2-3, "),
+        ("1..2", "1 0-1, . 1-2, . 2-3, 2 3-4, "),
+        (":a.b", "symbol a 0-2, . 2-3, name b 3-4, "),
+        ("a.\nb", "name a 0-1, . 1-2, newline 2-3, name b 3-4, "),
+        (".f", ". 0-1, name f 1-2, "),
+        ("\n.f", "newline 0-1, . 1-2, name f 2-3, "),
+        ("# n\n.f", "newline 3-4, . 4-5, name f 5-6, "),
+        (
+            "# @type var x: T\n.f",
+            "note 0-16, newline 16-17, . 17-18, name f 18-19, ",
+        ),
+        (
+            "c\n\n.f",
+            "name c 0-1, newline 1-2, newline 2-3, . 3-4, name f 4-5, ",
+        ),
+        (
+            "c\n \t\n.f",
+            "name c 0-1, newline 1-2, newline 4-5, . 5-6, name f 6-7, ",
+        ),
+        (
+            "c\n\r\n.f",
+            "name c 0-1, newline 1-2, newline 3-4, . 4-5, name f 5-6, ",
+        ),
+        (
+            "c\n\n# n\n.f",
+            "name c 0-1, newline 1-2, newline 2-3, newline 6-7, . 7-8, name f 8-9, ",
+        ),
+        (
+            "c\n# n\n\n.f",
+            "name c 0-1, newline 1-2, newline 5-6, newline 6-7, . 7-8, name f 8-9, ",
+        ),
+        (
+            "c # n\nd .f",
+            "name c 0-1, newline 5-6, name d 6-7, . 8-9, name f 9-10, ",
+        ),
+    ];
+    for (text, expected) in texts {
+        if text.len() < 100 {
+            assert_eq!(rt;
+                shown(alloc, text.as_bytes())?.ok_or("none")?.as_str(),
+                expected
+            );
+        }
+    }
+    Ok(())
+}
+
+#[test]
+fn leading_dots(rt: HostRuntime) -> Result<(), Fail> {
+    let alloc = rt.alloc();
+    let texts: [(&str, &str); 9] = [
+        (
+            "c\n.f",
+            "name c 0-1, newline 1-2, leading . 2-3, name f 3-4, ",
+        ),
+        (
+            "c # n\n \t# m\n  .f",
+            "name c 0-1, newline 5-6, newline 11-12, leading . 14-15, name f 15-16, ",
+        ),
+        (
+            "c\n# @type var x: T\n.f",
+            "name c 0-1, newline 1-2, note 2-18, newline 18-19, leading . 19-20, name f 20-21, ",
+        ),
+        (
+            "c\r\n\r.f",
+            "name c 0-1, newline 2-3, leading . 4-5, name f 5-6, ",
+        ),
+        (
+            "c\r\n# n\r\n.f",
+            "name c 0-1, newline 2-3, newline 7-8, leading . 8-9, name f 9-10, ",
+        ),
+        (
+            "c\n..f",
+            "name c 0-1, newline 1-2, leading . 2-3, . 3-4, name f 4-5, ",
+        ),
+        (
+            "c\n.f\n.g",
+            "name c 0-1, newline 1-2, leading . 2-3, name f 3-4, newline 4-5, leading . 5-6, name g 6-7, ",
+        ),
+        (
+            "'a\n\n'\n.f",
+            "text a\n\n 0-5, newline 5-6, leading . 6-7, name f 7-8, ",
+        ),
+        (
+            "\nc\n.f",
+            "newline 0-1, name c 1-2, newline 2-3, leading . 3-4, name f 4-5, ",
+        ),
     ];
     for (text, expected) in texts {
         if text.len() < 100 {

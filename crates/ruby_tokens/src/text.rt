@@ -6,6 +6,7 @@ ghost use Rattle.ruby_tokens.specs.Reads.{reads, first};
 ghost use Rattle.ruby_tokens.specs.Does.{Ends};
 ghost use Rattle.ruby_tokens.specs.Answers.{Answers};
 
+use crate::before::at_start;
 use crate::lexer::{ends, step};
 use crate::mode::{Lexer, Mode};
 use crate::refused::Refused;
@@ -21,7 +22,7 @@ fn tokens_of(alloc: Global, characters: &[char]) -> Result<Many<Token>, Refused>
 {
     let mut lexer = Lexer {
         tokens: Many::new(alloc),
-        mode: Mode::LineStart,
+        mode: Mode::Between(at_start()),
     };
     let mut at: u32 = 0;
     for c in characters {

@@ -22,6 +22,11 @@ pub enum Kind {
     Open,
     Close,
     Comma,
+    Dot,
+    /// A dot that begins a line and goes on with the statement of an earlier one: nothing but blanks
+    /// stands before it on its line, and each line between its own and that of the token before it
+    /// holds a comment. Newlines and the comments that give a type don't count as that token.
+    LeadingDot,
     Equals,
     /// A dot on the line of what it is called on.
     Dot,

@@ -1,7 +1,7 @@
 use Rattle.std.proofs.Common.{◌∙◌, sym, ap}
 use Rattle.std.specs.Option.{is_some}
 use Rattle.names.specs.Places.{is_among}
-use Rattle.rbs_parser.specs.Profile.{value_classes}
+use Rattle.profile_words.specs.Words.{value_classes}
 use Rattle.rbs_parser.proofs.Named.{place_found}
 use Rattle.rbs_parser.proofs.Members.{one_word, known_word}
 use Rattle.rbs_parser.proofs.well_named.is_known.Goals as goal
