@@ -182,9 +182,14 @@ module _ (ending : Ending) (ss : List Statement) (goal : Option (List ℕ)) wher
   after_ended : (o : Option Expression) (x : Expression) (t : Turn) {qs : List PlainStatement} {rest : List Token} → o ≡ Some x → After ending ss qs rest goal t (plain_expression x) [] → Ends ending [] rest × Finished (with_final ss goal o) qs
   after_ended o x t is g =
       let l = no_lists t g.4 in
-      let added = with_low_statement ss goal x g.2 in
-      (l.1, (ss ++ statement_of goal x ∷ [], ap (with_final ss goal) is ∙ added,
-      g.1 ∙ ap (λ more. plain_statements ss ++ plain_of goal (plain_expression x) ∷ more) l.0 ∙ sym (same_more ss goal x []) ∙ none_more (plain_statements (ss ++ statement_of goal x ∷ []))))
+      let added = with_low_statement ss goal x g.2 in (
+        l.1,
+        (
+          ss ++ statement_of goal x ∷ [],
+          ap (with_final ss goal) is ∙ added,
+          g.1 ∙ ap (λ more. plain_statements ss ++ plain_of goal (plain_expression x) ∷ more) l.0 ∙ sym (same_more ss goal x []) ∙ none_more (plain_statements (ss ++ statement_of goal x ∷ [])),
+        ),
+      )
 
   expression_ended : (r : ExpressionReader) {qs : List PlainStatement} {rest : List Token} → ExpressionLeft (After ending ss qs rest goal) r [] → Ends ending [] rest × Finished (with_final ss goal (expression_final r)) qs
   expression_ended r {qs = qs} {rest = rest} g =

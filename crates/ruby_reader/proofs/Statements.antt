@@ -91,13 +91,14 @@ newline_list turn.Taken l = list_break break_newline l
 
 pub after_surrounds : (ending : Ending) (ss : List Statement) (qs : List PlainStatement) (rest : List Token) (goal : Option (List ℕ)) → Surrounds (After ending ss qs rest goal)
 after_surrounds ending ss qs rest goal = record {
-    low = λ t x ts g. low_expression goal x g.2;
-    to_line = λ t x s e ts g. (g.0, g.1, g.2, g.3, lists_line g.4);
-    from_line = λ t x s e ts g. (g.0, g.1, g.2, g.3, newline_list t g.4);
-    no_dot = λ t x s e ts g. no_dot_list g.4;
-    no_leading_dot = λ t x s e ts g. no_leading_list g.4;
-    no_note = λ t x s e ts g. no_note_list g.4;
-    no_open = λ t x s e ts g. no_open_list g.4 }
+  low = λ t x ts g. low_expression goal x g.2;
+  to_line = λ t x s e ts g. (g.0, g.1, g.2, g.3, lists_line g.4);
+  from_line = λ t x s e ts g. (g.0, g.1, g.2, g.3, newline_list t g.4);
+  no_dot = λ t x s e ts g. no_dot_list g.4;
+  no_leading_dot = λ t x s e ts g. no_leading_list g.4;
+  no_note = λ t x s e ts g. no_note_list g.4;
+  no_open = λ t x s e ts g. no_open_list g.4;
+}
 
 statement_low : (goal : Option (List ℕ)) (x : Expression) → statement_height (plain_of goal (plain_expression x)) ≤ limit → is_low (statement_of goal x) ≡ true
 statement_low None x low = le-leb (statement_height (plain_statement (statement_of None x))) limit low

@@ -21,7 +21,8 @@ use Rattle.ruby_reader.specs.declared.expression.Outcome.{Outcome}
 use Rattle.ruby_reader.specs.declared.expression.Outcome.TheVariants.{Reading, Ended}
 use Rattle.ruby_reader.specs.PlainLaws.{plain_expression}
 use Rattle.ruby_reader.specs.Heights.{height, limit}
-use Rattle.ruby_reader.specs.Called.{new_word, is_callable}
+use Rattle.profile_words.specs.Words.{is_callable}
+use Rattle.ruby_reader.specs.Called.{new_word}
 
 abbrev pub at : List Frame → ExpressionPlace → ExpressionReader
 at fs p = record { frames = fs; place = p }

@@ -3,12 +3,12 @@
 ghost use Rattle.std.specs.Prelude.{◌≡◌, [], ◌∷◌, IfOk};
 ghost use Rattle.ruby_reader.specs.ExpressionMachine as machine;
 
-use crate::callable::is_callable;
 use crate::frames::{Call, Frame, Stack, Target};
 use crate::progress::Turn;
 use crate::tall::{Row, Tall};
 use crate::tree::Literal;
 use plain_data::{NoMemory, Word};
+use profile_words::is_callable;
 use ruby_tokens::{Kind, Token};
 use std::alloc::Global;
 
@@ -89,7 +89,10 @@ fn with_made(frames: Stack, value: Option<Tall>) -> Option<Outcome>
     ensures { result ≡ machine.with_made frames value }
 {
     match value {
-        Some(value) => reading(frames, ExpressionPlace::Behind(Target::Value(value), Way::Here)),
+        Some(value) => reading(
+            frames,
+            ExpressionPlace::Behind(Target::Value(value), Way::Here),
+        ),
         None => None,
     }
 }

@@ -1,7 +1,6 @@
 //! Ruby text, read: the classes that it opens with their methods, and the statements behind them.
 #![tactic(auto)]
 
-mod callable;
 mod class;
 mod expression;
 mod file;

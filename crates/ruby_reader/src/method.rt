@@ -143,7 +143,9 @@ impl MethodReader {
             MethodReader::Parameters(head, parameters) => {
                 in_parameters(alloc, head, parameters, token)
             }
-            MethodReader::Body(head, parameters, body) => in_body(alloc, head, parameters, body, token),
+            MethodReader::Body(head, parameters, body) => in_body(
+                alloc, head, parameters, body, token,
+            ),
         }
     }
 }

@@ -28,7 +28,8 @@ fn reads(classes: &Names, locals: &Names, expression: &Expression) -> bool
             start: _,
             end: _,
             arguments,
-        } => reads(classes, locals, receiver.get()) && reads_each(classes, locals, arguments.as_slice()),
+        } => reads(classes, locals, receiver.get())
+            && reads_each(classes, locals, arguments.as_slice()),
         Expression::New {
             class,
             start: _,

@@ -28,10 +28,6 @@ pub enum Kind {
     /// holds a comment. Newlines and the comments that give a type don't count as that token.
     LeadingDot,
     Equals,
-    /// A dot on the line of what it is called on.
-    Dot,
-    /// A dot that begins a line.
-    LeadingDot,
     Semicolon,
     Newline,
     /// A comment on a line of its own that gives a local its type: `# @type var x: T`.
