@@ -1,0 +1,7 @@
+pub mod Pieces
+pub mod Names
+pub mod Integers
+pub mod Kinds
+pub mod Longest
+pub mod Division
+pub mod Scanned
