@@ -1,9 +1,11 @@
 //! The longest token that begins a text.
 
-ghost use Rattle.std.specs.Prelude.{◌≡◌, ◌∷◌};
-ghost use Rattle.rbs_lexer.specs.Scanned.{Finds};
+ghost use Rattle.std.specs.Prelude.{◌≡◌, ℕ, ◌∷◌, Some, true, false};
+ghost use Rattle.std.specs.Char.{is_ascii_digit};
+ghost use Rattle.source_text.specs.Characters.{starts_word};
+ghost use Rattle.rbs_lexer.specs.Scanned.{is_mark_byte, begins_more, Finds};
 
-use crate::names::{begins_upper, byte_at, lower_length, method_name_length, starts_lower};
+use crate::names::{begins_interface, byte_at, lower_length, method_name_length};
 use crate::pieces::{Run, run_length};
 use crate::token::TokenKind;
 
@@ -14,24 +16,31 @@ pub struct Found {
     pub size: usize,
 }
 
-fn of_kind(kind: TokenKind, size: usize) -> Option<Found> {
+fn of_kind(kind: TokenKind, size: usize) -> Option<Found>
+    ensures { result ≡ Some (record { kind = kind; size = size }) }
+{
     Some(Found { kind, size })
 }
 
 /// Behind the first byte of a word.
-fn word(first: u8, rest: &[u8]) -> Option<Found> {
+fn word(first: u8, rest: &[u8]) -> Option<Found>
+    requires { starts_word first ≡ true }
+    ensures { Finds (first ∷ rest.now) result }
+{
     let size = 1 + run_length(Run::Name, rest);
     if first.is_ascii_uppercase() {
         of_kind(TokenKind::Upper, size)
-    } else if first == b'_' && begins_upper(rest) {
+    } else if begins_interface(first, rest) {
         of_kind(TokenKind::IfaceName, size)
     } else {
         of_kind(TokenKind::Ident, size)
     }
 }
 
-/// Behind the first digit.
-fn number(rest: &[u8]) -> Option<Found> {
+/// Behind the first digit, whichever it is.
+fn number(rest: &[u8]) -> Option<Found>
+    ensures { (b : ℕ) → is_ascii_digit b ≡ true → Finds (b ∷ rest.now) result }
+{
     of_kind(TokenKind::Int, 1 + run_length(Run::Digit, rest))
 }
 
@@ -99,40 +108,70 @@ fn annotation(rest: &[u8]) -> Option<Found>
     of_kind(TokenKind::Mark, 1)
 }
 
-/// A byte that is a mark by itself.
-fn is_single_mark(byte: u8) -> bool {
-    matches!(
-        byte,
-        b'<' | b','
-            | b'.'
-            | b'['
-            | b']'
-            | b'('
-            | b')'
-            | b'{'
-            | b'}'
-            | b'|'
-            | b'&'
-            | b'^'
-            | b'?'
-            | b'!'
-            | b'='
-            | b'*'
-            | b'>'
-            | b'+'
-            | b'/'
-    )
+/// A byte that is a mark.
+fn is_mark_byte(byte: u8) -> bool
+    ensures { result ≡ is_mark_byte byte }
+{
+    byte == b'<'
+        || byte == b':'
+        || byte == b','
+        || byte == b'.'
+        || byte == b'@'
+        || byte == b'['
+        || byte == b']'
+        || byte == b'('
+        || byte == b')'
+        || byte == b'{'
+        || byte == b'}'
+        || byte == b'|'
+        || byte == b'&'
+        || byte == b'^'
+        || byte == b'?'
+        || byte == b'!'
+        || byte == b'='
+        || byte == b'*'
+        || byte == b'-'
+        || byte == b'>'
+        || byte == b'+'
+        || byte == b'/'
+        || byte == b'%'
 }
 
-/// At what may be a mark.
-fn mark(first: u8, rest: &[u8]) -> Option<Found> {
+/// Behind the first byte, which begins nothing but marks.
+fn mark(first: u8, rest: &[u8]) -> Option<Found>
+    requires { begins_more first ≡ false }
+    ensures { Finds (first ∷ rest.now) result }
+{
     if first == b'*' && byte_at(rest, 0) == b'*' {
         of_kind(TokenKind::Mark, 2)
-    } else if is_single_mark(first) {
+    } else if is_mark_byte(first) {
         of_kind(TokenKind::Mark, 1)
     } else {
         None
     }
+}
+
+/// Behind the first byte, which begins neither a word nor a number.
+fn sign(first: u8, rest: &[u8]) -> Option<Found>
+    requires word { starts_word first ≡ false }
+    requires digit { is_ascii_digit first ≡ false }
+    ensures { Finds (first ∷ rest.now) result }
+{
+    match first {
+        b'-' => minus(rest),
+        b'"' => string(rest),
+        b'#' => comment(rest),
+        b'@' => variable(rest),
+        b':' => symbol(rest),
+        b'%' => annotation(rest),
+        _ => mark(first, rest),
+    }
+}
+
+fn starts_word(byte: u8) -> bool
+    ensures { result ≡ starts_word byte }
+{
+    byte.is_ascii_alphabetic() || byte == b'_'
 }
 
 /// The longest token that begins the text, or `None` where none does.
@@ -142,15 +181,11 @@ pub fn first_token(text: &[u8]) -> Option<Found>
     let [first, rest @ ..] = text else {
         return None;
     };
-    match *first {
-        b'-' => minus(rest),
-        b'"' => string(rest),
-        b'#' => comment(rest),
-        b'@' => variable(rest),
-        b':' => symbol(rest),
-        b'%' => annotation(rest),
-        byte if byte.is_ascii_digit() => number(rest),
-        byte if byte.is_ascii_uppercase() || starts_lower(byte) => word(byte, rest),
-        byte => mark(byte, rest),
+    if starts_word(*first) {
+        word(*first, rest)
+    } else if first.is_ascii_digit() {
+        number(rest)
+    } else {
+        sign(*first, rest)
     }
 }

@@ -2,20 +2,29 @@
 
 ghost use Rattle.std.specs.Prelude.{◌≡◌, ◌∷◌, slice_index};
 ghost use Rattle.rbs_lexer.specs.Names.{starts_lower, is_ending, IsLower, IsWord, IsOperator, IsMethodName};
-ghost use Rattle.rbs_lexer.specs.Scanned.{IsLongest};
+ghost use Rattle.rbs_lexer.specs.Scanned.{begins_upper, begins_interface, less_length, index_length, pair_length, is_single_operator, operator_length, IsLongest};
 
 use crate::pieces::{Run, run_length};
 
 /// Whether a capital stands first.
-pub fn begins_upper(text: &[u8]) -> bool {
+fn begins_upper(text: &[u8]) -> bool
+    ensures { result ≡ begins_upper text.now }
+{
     match text {
         [first, ..] => first.is_ascii_uppercase(),
         [] => false,
     }
 }
 
+/// Whether the byte and the text behind it begin the name of an interface.
+pub fn begins_interface(first: u8, rest: &[u8]) -> bool
+    ensures { result ≡ begins_interface first rest.now }
+{
+    first == b'_' && begins_upper(rest)
+}
+
 /// An ASCII lower-case letter or an underscore.
-pub fn starts_lower(byte: u8) -> bool
+fn starts_lower(byte: u8) -> bool
     ensures { result ≡ starts_lower byte }
 {
     byte.is_ascii_lowercase() || byte == b'_'
@@ -25,10 +34,15 @@ pub fn starts_lower(byte: u8) -> bool
 pub fn lower_length(text: &[u8]) -> usize
     ensures { IsLongest IsLower text.now result }
 {
-    match text {
-        [b'_', rest @ ..] if begins_upper(rest) => 1,
-        [first, rest @ ..] if starts_lower(*first) => 1 + run_length(Run::Name, rest),
-        _ => 0,
+    let [first, rest @ ..] = text else {
+        return 0;
+    };
+    if !starts_lower(*first) {
+        0
+    } else if begins_interface(*first, rest) {
+        1
+    } else {
+        1 + run_length(Run::Name, rest)
     }
 }
 
@@ -59,15 +73,61 @@ pub fn byte_at(text: &[u8], at: usize) -> u8
     }
 }
 
-/// The bytes of the longest operator that begins with these bytes, or 0.
-fn operator_length_of(first: u8, second: u8, third: u8) -> usize {
-    match (first, second) {
-        (b'<', b'=') if third == b'>' => 3,
-        (b'[', b']') if third == b'=' => 3,
-        (b'=', b'=') | (b'<', b'=') | (b'>', b'=') | (b'<', b'<') | (b'[', b']') | (b'-', b'@') =>
-            2,
-        (b'+' | b'-' | b'*' | b'/' | b'%' | b'<' | b'>', _) => 1,
+/// The bytes of the longest operator of these three bytes that begins with `<`.
+fn less_length(second: u8, third: u8) -> usize
+    ensures { result ≡ less_length second third }
+{
+    match second {
+        b'=' if third == b'>' => 3,
+        b'=' | b'<' => 2,
+        _ => 1,
+    }
+}
+
+/// The bytes of the longest operator of these three bytes that begins with `[`, or 0.
+fn index_length(second: u8, third: u8) -> usize
+    ensures { result ≡ index_length second third }
+{
+    match second {
+        b']' if third == b'=' => 3,
+        b']' => 2,
         _ => 0,
+    }
+}
+
+/// The bytes of the longest other operator of these two bytes that may have two, or 0.
+fn pair_length(first: u8, second: u8) -> usize
+    ensures { result ≡ pair_length first second }
+{
+    if first == b'=' {
+        if second == b'=' { 2 } else { 0 }
+    } else if first == b'>' {
+        if second == b'=' { 2 } else { 1 }
+    } else if first == b'-' {
+        if second == b'@' { 2 } else { 1 }
+    } else {
+        0
+    }
+}
+
+fn is_single_operator(byte: u8) -> bool
+    ensures { result ≡ is_single_operator byte }
+{
+    byte == b'+' || byte == b'*' || byte == b'/' || byte == b'%'
+}
+
+/// The bytes of the longest operator of these three bytes, or 0.
+fn operator_length_of(first: u8, second: u8, third: u8) -> usize
+    ensures { result ≡ operator_length first second third }
+{
+    if first == b'<' {
+        less_length(second, third)
+    } else if first == b'[' {
+        index_length(second, third)
+    } else if is_single_operator(first) {
+        1
+    } else {
+        pair_length(first, second)
     }
 }
 

@@ -1,8 +1,8 @@
 //! Runs of characters, and of the pieces of a string's text.
 
 ghost use Rattle.std.specs.Prelude.{◌≡◌};
-ghost use Rattle.rbs_lexer.specs.Pieces.{is_in_line, is_note_character, is_plain, is_escaped};
-ghost use Rattle.rbs_lexer.specs.Scanned.{belongs, IsPiece, First, IsRun};
+ghost use Rattle.rbs_lexer.specs.Pieces.{IsCharacter, IsStringPiece, is_note_character, is_plain, is_escaped};
+ghost use Rattle.rbs_lexer.specs.Scanned.{belongs, begins_escape, IsPiece, First, IsRun};
 
 use bstr::decode_utf8;
 use source_text::is_name_character;
@@ -53,11 +53,35 @@ fn is_escaped(byte: u8) -> bool
     byte == b'"' || byte == b'\\' || byte == b'n' || byte == b't'
 }
 
+/// Whether an escape stands first.
+fn begins_escape(text: &[u8]) -> bool
+    ensures { result ≡ begins_escape text.now }
+{
+    match text {
+        [first, second, ..] => *first == b'\\' && is_escaped(*second),
+        _ => false,
+    }
+}
+
 /// The bytes of the first character, if it belongs to the run.
-fn character_length(run: Run, text: &[u8]) -> Option<usize> {
-    match decode_utf8(text) {
-        (Some(c), length) if belongs(run, c) => Some(length),
-        _ => None,
+fn character_length(run: Run, text: &[u8]) -> Option<usize>
+    ensures { First (IsCharacter (belongs run)) text.now result }
+{
+    let (first, length) = decode_utf8(text);
+    match first {
+        None => None,
+        Some(c) => { if belongs(run, c) { Some(length) } else { None } }
+    }
+}
+
+/// The bytes of the first piece of a string's text.
+fn string_piece_length(text: &[u8]) -> Option<usize>
+    ensures { First IsStringPiece text.now result }
+{
+    if begins_escape(text) {
+        Some(2)
+    } else {
+        character_length(Run::Text, text)
     }
 }
 
@@ -65,8 +89,8 @@ fn character_length(run: Run, text: &[u8]) -> Option<usize> {
 fn piece_length(run: Run, text: &[u8]) -> Option<usize>
     ensures { First (IsPiece run) text.now result }
 {
-    match text {
-        [b'\\', escaped, ..] if run == Run::Text && is_escaped(*escaped) => Some(2),
+    match run {
+        Run::Text => string_piece_length(text),
         _ => character_length(run, text),
     }
 }

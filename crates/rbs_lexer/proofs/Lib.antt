@@ -1,0 +1,4 @@
+pub mod Bytes
+pub mod SamePieces
+pub mod Runs
+pub mod Decoded
