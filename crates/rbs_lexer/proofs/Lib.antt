@@ -2,3 +2,8 @@ pub mod Bytes
 pub mod SamePieces
 pub mod Runs
 pub mod Decoded
+pub mod NameFronts
+pub mod Listed
+pub mod Operators
+pub mod MethodNames
+pub mod FirstBytes
