@@ -33,7 +33,7 @@ unfolding begins_word
 no_operator bytes u v w rest h e o f =
     let other = no_word w o in
     let same : get_or u 0 0 ≡ get_or w 0 0 =
-        sym (get_or_append_left u v 0 0 (word_some u h)) ∙ ap (λ b. get_or b 0 0) (sym e ∙ f) ∙ get_or_append_left w rest 0 0 other.0 in
+    sym (get_or_append_left u v 0 0 (word_some u h)) ∙ ap (λ b. get_or b 0 0) (sym e ∙ f) ∙ get_or_append_left w rest 0 0 other.0 in
     let is : begins_word (get_or w 0 0) ≡ true = subst (λ b. begins_word b ≡ true) same (word_first u h) in
     let fails : begins_word (get_or w 0 0) ≡ false = other.1 in
     cc
@@ -72,8 +72,8 @@ module _ (bytes : List ℕ) where
         at_most x rest (inl (inr (w, b, p, g, h))) e =
             let less : length w ≤ n = word.longest w (b ∷ rest) p (ended_split bytes w rest x b e h) in
             let differs : length w ≡ n → ⊥ = λ l.
-                let ends : is_ending (get_or bytes n 0) ≡ true = ap is_ending (ending_at w rest b (ended_split bytes w rest x b e h) l) ∙ g in
-                cc in
+            let ends : is_ending (get_or bytes n 0) ≡ true = ap is_ending (ending_at w rest b (ended_split bytes w rest x b e h) l) ∙ g in
+            cc in
             omega (arith, less, differs, ended_length w x b h)
         at_most x rest (inr o) e = absurd (no_operator bytes (take n bytes) (drop n bytes) x rest (word.front some) split o e)
 

@@ -28,21 +28,51 @@ less_least b c = least 1 (b == 61) _ _ (least 1 (c == 62) 3 2 (omega arith) (ome
 
 each_at_most : Each AtMost operators
 each_at_most = (
-  λ r. omega arith, (
-  λ r. least 1 (get_or r 0 0 == 64) 2 1 (omega arith) (omega arith), (
-  λ r. omega arith, (
-  λ r. omega arith, (
-  λ r. omega arith, (
-  λ r. omega arith, (
-  λ r. less_least (get_or r 0 0) (get_or r 1 0), (
-  λ r. least 2 (get_or r 0 0 == 62) 3 2 (omega arith) (omega arith), (
-  λ r. least 1 (get_or r 0 0 == 61) 2 1 (omega arith) (omega arith), (
-  λ r. omega arith, (
-  λ r. omega arith, (
-  λ r. omega arith, (
-  λ r. least 2 (get_or r 0 0 == 61) 3 2 (omega arith) (omega arith), (
-  λ r. omega arith, (
-  λ r. omega arith, tt)))))))))))))))
+  λ r. omega arith,
+  (
+    λ r. least 1 (get_or r 0 0 == 64) 2 1 (omega arith) (omega arith),
+    (
+      λ r. omega arith,
+      (
+        λ r. omega arith,
+        (
+          λ r. omega arith,
+          (
+            λ r. omega arith,
+            (
+              λ r. less_least (get_or r 0 0) (get_or r 1 0),
+              (
+                λ r. least 2 (get_or r 0 0 == 62) 3 2 (omega arith) (omega arith),
+                (
+                  λ r. least 1 (get_or r 0 0 == 61) 2 1 (omega arith) (omega arith),
+                  (
+                    λ r. omega arith,
+                    (
+                      λ r. omega arith,
+                      (
+                        λ r. omega arith,
+                        (
+                          λ r. least 2 (get_or r 0 0 == 61) 3 2 (omega arith) (omega arith),
+                          (
+                            λ r. omega arith,
+                            (
+                              λ r. omega arith,
+                              tt,
+                            ),
+                          ),
+                        ),
+                      ),
+                    ),
+                  ),
+                ),
+              ),
+            ),
+          ),
+        ),
+      ),
+    ),
+  ),
+)
 
 -- what stands first, by its bytes
 one : (bytes : List ℕ) (a : ℕ) → 0 < a → get_or bytes 0 0 ≡ a → bytes ≡ a ∷ drop 1 bytes
@@ -128,6 +158,28 @@ abbrev NoWord : List ℕ → Type 0
 NoWord w = (0 < length w) × ((starts_lower (get_or w 0 0) || is_ascii_uppercase (get_or w 0 0)) ≡ false)
 
 pub no_word : (w : List ℕ) → IsOperator w → NoWord w
-no_word w o = among_each NoWord w operators
-    ((omega arith, refl), ((omega arith, refl), ((omega arith, refl), ((omega arith, refl), ((omega arith, refl), ((omega arith, refl), ((omega arith, refl), ((omega arith, refl),
-    ((omega arith, refl), ((omega arith, refl), ((omega arith, refl), ((omega arith, refl), ((omega arith, refl), ((omega arith, refl), ((omega arith, refl), tt))))))))))))))) o
+no_word w o = among_each NoWord w operators (
+  (omega arith, refl),
+  (
+    (omega arith, refl),
+    (
+      (omega arith, refl),
+      (
+        (omega arith, refl),
+        (
+          (omega arith, refl),
+          (
+            (omega arith, refl),
+            (
+              (omega arith, refl),
+              (
+                (omega arith, refl),
+                ((omega arith, refl), ((omega arith, refl), ((omega arith, refl), ((omega arith, refl), ((omega arith, refl), ((omega arith, refl), ((omega arith, refl), tt))))))),
+              ),
+            ),
+          ),
+        ),
+      ),
+    ),
+  ),
+) o

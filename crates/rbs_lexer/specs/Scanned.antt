@@ -6,7 +6,7 @@ use Rattle.source_text.specs.Characters.{is_name_character, starts_word}
 use Rattle.rbs_lexer.specs.declared.pieces.Run.{Run}
 use Rattle.rbs_lexer.specs.declared.pieces.Run.TheVariants as run
 use Rattle.rbs_lexer.specs.declared.found.Found.{Found}
-use Rattle.rbs_lexer.specs.Pieces.{IsCharacter, IsStringPiece, Repeated, is_in_line, is_note_character, is_plain, is_escaped}
+use Rattle.rbs_lexer.specs.Pieces.{IsCharacter, IsStringPiece, Repeated, Closed, After, is_in_line, is_note_character, is_plain, is_escaped}
 use Rattle.rbs_lexer.specs.Longest.{BeginsNone, BeginsWith}
 
 -- the characters of a run
@@ -48,10 +48,17 @@ is_single_operator a = ((a == 43 || a == 42) || a == 47) || a == 37
 abbrev pub operator_length : ℕ → ℕ → ℕ → ℕ
 operator_length a b c = if a == 60 then less_length b c else if a == 91 then index_length b c else if is_single_operator a then 1 else pair_length a b
 
--- a byte that is a mark
+-- the marks of one byte
+abbrev pub single_marks : List (List ℕ)
+single_marks = codes "<" ∷ codes ":" ∷ codes "," ∷ codes "." ∷ codes "@" ∷ codes "[" ∷ codes "]" ∷ codes "(" ∷ codes ")" ∷ codes "{" ∷ codes "}" ∷ codes "|"
+    ∷ codes "&" ∷ codes "^" ∷ codes "?" ∷ codes "!" ∷ codes "=" ∷ codes "*" ∷ codes "-" ∷ codes ">" ∷ codes "+" ∷ codes "/" ∷ codes "%" ∷ []
+
 abbrev pub is_mark_byte : ℕ → Bool
-is_mark_byte b = is_among (b ∷ []) (codes "<" ∷ codes ":" ∷ codes "," ∷ codes "." ∷ codes "@" ∷ codes "[" ∷ codes "]" ∷ codes "(" ∷ codes ")" ∷ codes "{" ∷ codes "}" ∷ codes "|"
-    ∷ codes "&" ∷ codes "^" ∷ codes "?" ∷ codes "!" ∷ codes "=" ∷ codes "*" ∷ codes "-" ∷ codes ">" ∷ codes "+" ∷ codes "/" ∷ codes "%" ∷ [])
+is_mark_byte b = is_among (b ∷ []) single_marks
+
+-- the marks of two bytes
+abbrev pub is_pair : ℕ → ℕ → Bool
+is_pair a b = ((a == 58 && b == 58) || (a == 45 && b == 62)) || (a == 42 && b == 42)
 
 -- a byte that begins more than marks
 abbrev pub begins_more : ℕ → Bool
@@ -64,6 +71,10 @@ IsPiece run.Digit x = IsCharacter is_ascii_digit x
 IsPiece run.Text x = IsStringPiece x
 IsPiece run.Note x = IsCharacter is_note_character x
 IsPiece run.Line x = IsCharacter is_in_line x
+
+-- what stands behind the percent sign of an annotation
+abbrev pub IsNoteRest : List ℕ → Type 0
+IsNoteRest w = After 97 (After 123 (Closed 125 (Repeated (IsCharacter is_note_character)))) w
 
 -- no such piece begins the bytes
 abbrev pub NoPiece : (List ℕ → Type 0) → List ℕ → Type 0

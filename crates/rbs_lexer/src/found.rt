@@ -3,7 +3,7 @@
 ghost use Rattle.std.specs.Prelude.{◌≡◌, ℕ, ◌∷◌, Some, true, false};
 ghost use Rattle.std.specs.Char.{is_ascii_digit};
 ghost use Rattle.source_text.specs.Characters.{starts_word};
-ghost use Rattle.rbs_lexer.specs.Scanned.{is_mark_byte, begins_more, Finds};
+ghost use Rattle.rbs_lexer.specs.Scanned.{is_mark_byte, is_pair, begins_more, IsNoteRest, IsLongest, Finds};
 
 use crate::names::{begins_interface, byte_at, lower_length, method_name_length};
 use crate::pieces::{Run, run_length};
@@ -95,17 +95,29 @@ fn symbol(rest: &[u8]) -> Option<Found>
     }
 }
 
+/// The bytes of an annotation that stands first, without its percent sign, or 0.
+fn note_length(text: &[u8]) -> usize
+    ensures { IsLongest IsNoteRest text.now result }
+{
+    let [b'a', b'{', note @ ..] = text else {
+        return 0;
+    };
+    let length = run_length(Run::Note, note);
+    if byte_at(note, length) == b'}' {
+        length + 3
+    } else {
+        0
+    }
+}
+
 /// Behind a percent sign.
 fn annotation(rest: &[u8]) -> Option<Found>
     ensures { Finds (37 ∷ rest.now) result }
 {
-    if let [b'a', b'{', note @ ..] = rest {
-        let text = run_length(Run::Note, note);
-        if byte_at(note, text) == b'}' {
-            return of_kind(TokenKind::Annotation, text + 4);
-        }
+    match note_length(rest) {
+        0 => of_kind(TokenKind::Mark, 1),
+        note => of_kind(TokenKind::Annotation, 1 + note),
     }
-    of_kind(TokenKind::Mark, 1)
 }
 
 /// A byte that is a mark.
@@ -137,12 +149,21 @@ fn is_mark_byte(byte: u8) -> bool
         || byte == b'%'
 }
 
+/// Two bytes that are a mark.
+fn is_pair(first: u8, second: u8) -> bool
+    ensures { result ≡ is_pair first second }
+{
+    (first == b':' && second == b':')
+        || (first == b'-' && second == b'>')
+        || (first == b'*' && second == b'*')
+}
+
 /// Behind the first byte, which begins nothing but marks.
 fn mark(first: u8, rest: &[u8]) -> Option<Found>
     requires { begins_more first ≡ false }
     ensures { Finds (first ∷ rest.now) result }
 {
-    if first == b'*' && byte_at(rest, 0) == b'*' {
+    if is_pair(first, byte_at(rest, 0)) {
         of_kind(TokenKind::Mark, 2)
     } else if is_mark_byte(first) {
         of_kind(TokenKind::Mark, 1)

@@ -8,5 +8,5 @@ pub returns : goal.returns
 returns c =
     let text = c.args.text.now in
     let is = c.operator_length_of.ensures ∙ ap (λ a. operator_length a c.byte_at-2.result c.byte_at-3.result) c.byte_at.ensures
-        ∙ ap (λ b. operator_length (get_or text 0 0) b c.byte_at-3.result) c.byte_at-2.ensures ∙ ap (λ d. operator_length (get_or text 0 0) (get_or text 1 0) d) c.byte_at-3.ensures in
+    ∙ ap (λ b. operator_length (get_or text 0 0) b c.byte_at-3.result) c.byte_at-2.ensures ∙ ap (λ d. operator_length (get_or text 0 0) (get_or text 1 0) d) c.byte_at-3.ensures in
     subst (IsLongest IsOperator text) (sym is) (operator_longest text)
