@@ -32,3 +32,8 @@ rest_is bytes at = take_all (length bytes - at) (drop at bytes) (omega (arith, l
 pub fronted : (bytes : List ℕ) → 1 ≤ length bytes → bytes ≡ get_or bytes 0 0 ∷ take (length bytes - 1) (drop 1 bytes)
 fronted [] h = absurd (omega arith)
 fronted (b ∷ bytes) h = ap (λ t. b ∷ t) (sym (rest_is (b ∷ bytes) 1))
+
+pub fronted_two : (bytes : List ℕ) (a b : ℕ) → 2 ≤ length bytes → get_or bytes 0 0 ≡ a → get_or bytes 1 0 ≡ b → bytes ≡ a ∷ b ∷ take (length bytes - 2) (drop 2 bytes)
+fronted_two [] a b h e f = absurd (omega arith)
+fronted_two (x ∷ []) a b h e f = absurd (omega arith)
+fronted_two (x ∷ y ∷ bytes) a b h e f = ap (λ x. x ∷ y ∷ bytes) e ∙ ap (λ y. a ∷ y ∷ bytes) f ∙ ap (λ t. a ∷ b ∷ t) (sym (rest_is (x ∷ y ∷ bytes) 2))

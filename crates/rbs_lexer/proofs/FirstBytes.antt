@@ -50,7 +50,7 @@ module _ (b : ℕ) (t : List ℕ) where
       let behind : t ≡ v ++ rest = cc in
       none j v rest (subst (λ c. IsToken j (c ∷ v)) (sym first) p) behind
 
-clash : false ≡ true → ⊥
+pub clash : false ≡ true → ⊥
 clash e = cc
 
 -- what a token with this first byte is behind it

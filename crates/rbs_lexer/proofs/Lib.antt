@@ -7,3 +7,4 @@ pub mod Listed
 pub mod Operators
 pub mod MethodNames
 pub mod FirstBytes
+pub mod FirstTokens

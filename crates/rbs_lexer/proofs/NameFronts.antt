@@ -42,7 +42,7 @@ module _ (b : ℕ) (t : List ℕ) (n : ℕ) (h : IsRun (IsPiece run.Name) t n) w
   pub upper_longest : is_ascii_uppercase b ≡ true → IsLongest IsUpper (b ∷ t) (1 + n)
   upper_longest u = longest_more IsUpper b t n h.within (u, h.pieces) (λ v rest p e. run_longest run.Name t n h v rest p.1 e)
 
-  no_interface : begins_interface b t ≡ false → IsInterfaceName (b ∷ take n t) → ⊥
+  pub no_interface : begins_interface b t ≡ false → IsInterfaceName (b ∷ take n t) → ⊥
   no_interface f (e, u) =
       let upper : begins_upper t ≡ true = begins_upper_of t (take n t) (drop n t) u (sym (take-append-drop n t)) in
       let both : begins_interface b t ≡ true = rw (e, upper) in
