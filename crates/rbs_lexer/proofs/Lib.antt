@@ -8,3 +8,6 @@ pub mod Operators
 pub mod MethodNames
 pub mod FirstBytes
 pub mod FirstTokens
+pub mod Values
+pub mod OneKind
+pub mod OneDivision

@@ -19,7 +19,7 @@ repeated_tail p d w v a (repeated_more {x = x} {w = u} (c, sc, pc, ex) r f) e =
     let joined : encode_utf8 c ++ u ≡ encode_utf8 d ++ w = ap (λ x. x ++ u) (sym ex) ∙ sym f ∙ e ∙ ap (λ x. x ++ w) (sym (ascii d a)) in
     subst (Repeated (IsCharacter p)) (encode_same c d u w joined).1 r
 
-upper_ascii : (b : ℕ) → is_ascii_uppercase b ≡ true → nat_lt b 128 ≡ true
+pub upper_ascii : (b : ℕ) → is_ascii_uppercase b ≡ true → nat_lt b 128 ≡ true
 upper_ascii b e = grind arith
 
 -- a longest front of bytes with a first one, by what stands behind it

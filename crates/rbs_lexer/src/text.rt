@@ -1,7 +1,7 @@
 //! The tokens of a text.
 
-ghost use Rattle.std.specs.Prelude.{◌≡◌, ◌<◌, ◌^◌, length};
-ghost use Rattle.rbs_lexer.specs.Division.{is_gap, span, Answers};
+ghost use Rattle.std.specs.Prelude.{◌≡◌, ◌↔◌, ◌<◌, ◌^◌, length, IsTrue};
+ghost use Rattle.rbs_lexer.specs.Division.{is_gap, span, IsFit, Answers};
 
 use crate::found::first_token;
 use crate::integers::fits;
@@ -30,6 +30,16 @@ fn span(file: u32, start: usize, end: usize) -> Place
     }
 }
 
+/// Whether a token is no integer past 64 bits.
+fn is_fit(kind: TokenKind, text: &[u8]) -> bool
+    ensures { IsTrue result ↔ IsFit kind text.now }
+{
+    match kind {
+        TokenKind::Int => fits(text),
+        _ => true,
+    }
+}
+
 /// The tokens of a signature file, in order, comments among them, each the longest that begins where it does. Between
 /// them stand only blanks and newlines.
 ///
@@ -49,7 +59,7 @@ pub fn tokens(alloc: Global, file: u32, bytes: &[u8]) -> Result<Many<SigToken>, 
                 return Err(LexRefused::Fault(span(file, at, at)));
             };
             let end = at + found.size;
-            if found.kind == TokenKind::Int && !fits(&bytes[at..end]) {
+            if !is_fit(found.kind, &bytes[at..end]) {
                 return Err(LexRefused::Limit(span(file, at, at)));
             }
             tokens.push(SigToken {
