@@ -11,3 +11,4 @@ pub mod FirstTokens
 pub mod Values
 pub mod OneKind
 pub mod OneDivision
+pub mod Loop
