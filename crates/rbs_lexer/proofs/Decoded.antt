@@ -1,9 +1,9 @@
 -- The first character of bytes, as `bstr` decodes it.
-use Rattle.std.proofs.Common.{ℕ, ◌≡◌, ◌≢◌, ◌+◌, ◌<◌, ◌≤◌, Bool, true, false, refl, sym, ◌∙◌, ap, subst, List, [], ◌∷◌, ◌++◌, length, take, drop, Option, Some, None, arith, length-append, take-append-drop}
+use Rattle.std.proofs.Common.{ℕ, ◌≡◌, ◌+◌, Bool, true, false, sym, ◌∙◌, ap, subst, List, ◌++◌, length, take, drop, Some, None, arith, length-append, take-append-drop}
 use Rattle.std.specs.Char.{encode_utf8, IsScalar}
 use Rattle.std.proofs.lemmas.List.{append_cancel_right}
 use Rattle.std.proofs.lemmas.Str.{length-encode, len_utf8_bounds}
-use Rattle.bstr.specs.Utf8.{Decoded, decoded, good}
+use Rattle.bstr.specs.Utf8.{Decoded, decoded}
 use Rattle.bstr.proofs.lemmas.EncodeLemmas.{decoded-encode}
 use Rattle.bstr.proofs.lemmas.SoundLemmas.{SpellsChar, SpellsChar-decoded}
 use Rattle.rbs_lexer.specs.Pieces.{IsCharacter}

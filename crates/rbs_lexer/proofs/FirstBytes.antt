@@ -1,19 +1,18 @@
 -- What tokens begin with a byte.
-use Rattle.std.proofs.Common.{ℕ, suc, ◌≡◌, ◌≢◌, ◌+◌, ◌<◌, ◌≤◌, Bool, true, false, refl, sym, ◌∙◌, ap, subst, List, [], ◌∷◌, ◌++◌, length, take, drop, get_or, inl, inr, arith, one-add}
-use Rattle.std.specs.Prelude.{◌⊎◌, ◌==◌, ◌||◌, ◌&&◌, not, nat_lt}
+use Rattle.std.proofs.Common.{ℕ, ◌≡◌, ◌+◌, ◌≤◌, Bool, true, false, refl, sym, ◌∙◌, ap, subst, List, [], ◌∷◌, ◌++◌, length, take, get_or, inl, inr, arith, one-add}
+use Rattle.std.specs.Prelude.{◌⊎◌, ◌==◌, ◌||◌, ◌&&◌, nat_lt}
 use Rattle.std.specs.Char.{IsScalar, is_ascii_digit, is_ascii_uppercase}
 use Rattle.std.proofs.lemmas.Bool.{eqb-true}
-use Rattle.names.specs.Places.{is_among}
 use Rattle.source_text.specs.Characters.{is_name_character, starts_word}
 use Rattle.rbs_lexer.specs.declared.token.TokenKind.{TokenKind}
 use Rattle.rbs_lexer.specs.declared.token.TokenKind.TheVariants as kind
-use Rattle.rbs_lexer.specs.Pieces.{IsCharacter, IsStringPiece, Repeated, repeated_more, Closed, After, is_in_line, is_note_character}
-use Rattle.rbs_lexer.specs.Names.{IsNameRest, IsLower, IsUpper, IsMethodName, starts_lower}
-use Rattle.rbs_lexer.specs.Integers.{IsDigits, IsNumber, IsInteger}
+use Rattle.rbs_lexer.specs.Pieces.{IsCharacter, IsStringPiece, Repeated, repeated_more, Closed, is_in_line}
+use Rattle.rbs_lexer.specs.Names.{IsNameRest, IsLower, IsUpper, IsMethodName}
+use Rattle.rbs_lexer.specs.Integers.{IsDigits, IsNumber}
 use Rattle.rbs_lexer.specs.Kinds.{IsToken, IsMark, marks}
 use Rattle.rbs_lexer.specs.Longest.{BeginsNone, BeginsWith}
 use Rattle.rbs_lexer.specs.Scanned.{IsNoteRest, single_marks, is_mark_byte, is_pair, begins_more}
-use Rattle.rbs_lexer.proofs.Bytes.{ascii, bool_cases, or_cases, and_true}
+use Rattle.rbs_lexer.proofs.Bytes.{ascii, or_cases, and_true}
 use Rattle.rbs_lexer.proofs.Listed.{Each, among_each}
 
 -- no token is empty

@@ -1,7 +1,7 @@
 -- The longest tokens, by their first byte.
-use Rattle.std.proofs.Common.{ℕ, zero, suc, ◌≡◌, ◌≢◌, ◌+◌, ◌<◌, ◌≤◌, Bool, true, false, refl, sym, ◌∙◌, ap, subst, List, [], ◌∷◌, ◌++◌, length, take, drop, get_or, append_assoc, inl, inr, arith, one-add, length-append, length-take-le, take-append-drop}
-use Rattle.std.specs.Prelude.{◌⊎◌, ◌==◌, ◌||◌, ◌&&◌, not, nat_lt}
-use Rattle.std.specs.Char.{IsScalar, encode_utf8, is_ascii_digit, is_ascii_uppercase}
+use Rattle.std.proofs.Common.{ℕ, zero, suc, ◌≡◌, ◌≢◌, ◌+◌, ◌<◌, ◌≤◌, Bool, true, false, refl, sym, ◌∙◌, ap, subst, List, [], ◌∷◌, ◌++◌, length, take, get_or, append_assoc, inl, inr, arith, length-append, length-take-le}
+use Rattle.std.specs.Prelude.{◌⊎◌, ◌==◌, nat_lt}
+use Rattle.std.specs.Char.{IsScalar, is_ascii_digit, is_ascii_uppercase}
 use Rattle.std.proofs.Math.Seq.{get_or-append_seam}
 use Rattle.std.proofs.lemmas.Bool.{eqb-true}
 use Rattle.std.proofs.lemmas.List.{take_more}
@@ -10,9 +10,9 @@ use Rattle.rbs_lexer.specs.declared.token.TokenKind.{TokenKind}
 use Rattle.rbs_lexer.specs.declared.token.TokenKind.TheVariants as kind
 use Rattle.rbs_lexer.specs.declared.pieces.Run.{Run}
 use Rattle.rbs_lexer.specs.declared.pieces.Run.TheVariants as run
-use Rattle.rbs_lexer.specs.Pieces.{IsCharacter, IsStringPiece, Repeated, repeated_none, repeated_more, Closed, After, is_plain, is_in_line, is_note_character}
-use Rattle.rbs_lexer.specs.Names.{IsNameRest, IsLower, IsUpper, IsInterfaceName, IsMethodName, starts_lower}
-use Rattle.rbs_lexer.specs.Integers.{IsDigits, IsNumber, IsInteger}
+use Rattle.rbs_lexer.specs.Pieces.{IsCharacter, IsStringPiece, Repeated, repeated_none, repeated_more, Closed, is_plain, is_note_character}
+use Rattle.rbs_lexer.specs.Names.{IsUpper, IsMethodName, starts_lower}
+use Rattle.rbs_lexer.specs.Integers.{IsDigits, IsNumber}
 use Rattle.rbs_lexer.specs.Kinds.{IsToken, IsMark}
 use Rattle.rbs_lexer.specs.Longest.{BeginsNone, BeginsWith}
 use Rattle.rbs_lexer.specs.Scanned.{IsPiece, NoPiece, IsRun, IsLongest, IsNoteRest, begins_upper, begins_interface, is_mark_byte, is_pair, begins_more}

@@ -12,3 +12,4 @@ pub mod Values
 pub mod OneKind
 pub mod OneDivision
 pub mod Loop
+pub mod Laws

@@ -1,10 +1,9 @@
 -- The loop over the bytes.
-use Rattle.std.proofs.Common.{ℕ, suc, ◌≡◌, ◌≢◌, ◌+◌, ◌-◌, ◌<◌, ◌≤◌, Bool, true, false, refl, sym, ◌∙◌, ap, subst, List, [], ◌∷◌, ◌++◌, length, take, drop, get_or, append_assoc, arith, add-one, drop-cons, drop-drop, length-drop}
+use Rattle.std.proofs.Common.{ℕ, ◌≡◌, ◌+◌, ◌<◌, ◌≤◌, true, false, sym, ◌∙◌, ap, subst, List, [], ◌∷◌, ◌++◌, length, take, drop, get_or, append_assoc, add-one, drop-cons, drop-drop}
 use Rattle.std.proofs.lemmas.List.{append-nil, drop_all}
 use Rattle.rbs_lexer.specs.declared.token.TokenKind.{TokenKind}
 use Rattle.rbs_lexer.specs.declared.token.TokenKind.TheVariants as kind
 use Rattle.rbs_lexer.specs.declared.token.SigToken.{SigToken}
-use Rattle.rbs_lexer.specs.Integers.{Fits64}
 use Rattle.rbs_lexer.specs.Longest.{BeginsNone, BeginsWith}
 use Rattle.rbs_lexer.specs.Division.{is_gap, IsFit, span, token_of, End, whole, stray, past, Divides, at_end, at_gap, at_token, at_stray, at_past, IsDivided}
 use Rattle.rbs_lexer.proofs.OneDivision.{divides_only}

@@ -1,10 +1,10 @@
 -- The longest names of methods that stand first.
-use Rattle.std.proofs.Common.{ℕ, zero, suc, ◌≡◌, ◌+◌, ◌<◌, ◌≤◌, Bool, true, false, refl, sym, ◌∙◌, ap, subst, List, [], ◌∷◌, ◌++◌, length, take, drop, get_or, append_assoc, inl, inr, arith, length-append, length-take-le, take-append-drop}
-use Rattle.std.specs.Prelude.{◌⊎◌, ◌==◌, ◌||◌}
+use Rattle.std.proofs.Common.{ℕ, zero, suc, ◌≡◌, ◌+◌, ◌<◌, ◌≤◌, Bool, true, false, refl, sym, ◌∙◌, ap, subst, List, [], ◌∷◌, ◌++◌, length, take, drop, get_or, append_assoc, inl, inr, arith, length-append, take-append-drop}
+use Rattle.std.specs.Prelude.{◌||◌}
 use Rattle.std.specs.Char.{is_ascii_uppercase}
 use Rattle.std.proofs.Math.Seq.{get_or-append_seam}
 use Rattle.std.proofs.lemmas.List.{get_or_append_left, take_more}
-use Rattle.rbs_lexer.specs.Names.{IsLower, IsUpper, IsWord, IsEndedWord, IsOperator, IsMethodName, is_ending, starts_lower}
+use Rattle.rbs_lexer.specs.Names.{IsWord, IsOperator, IsMethodName, is_ending, starts_lower}
 use Rattle.rbs_lexer.specs.Scanned.{IsLongest}
 use Rattle.rbs_lexer.proofs.Operators.{no_word}
 

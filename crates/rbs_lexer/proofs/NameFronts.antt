@@ -1,13 +1,13 @@
 -- The longest names that stand first.
-use Rattle.std.proofs.Common.{ℕ, suc, zero, ◌≡◌, ◌≢◌, ◌+◌, ◌<◌, ◌≤◌, Bool, true, false, refl, sym, ◌∙◌, ap, subst, List, [], ◌∷◌, ◌++◌, length, take, drop, get_or, append_assoc, inl, inr, arith, one-add, length-append, length-take-le, take-append-drop}
-use Rattle.std.specs.Prelude.{◌⊎◌, ◌==◌, ◌&&◌, nat_lt}
+use Rattle.std.proofs.Common.{ℕ, ◌≡◌, ◌+◌, ◌≤◌, Bool, true, false, refl, sym, ◌∙◌, ap, subst, List, [], ◌∷◌, ◌++◌, length, take, drop, inl, inr, arith, one-add, take-append-drop}
+use Rattle.std.specs.Prelude.{◌==◌, nat_lt}
 use Rattle.std.specs.Char.{encode_utf8, is_ascii_uppercase}
 use Rattle.std.proofs.lemmas.Bool.{eqb-true}
 use Rattle.std.proofs.lemmas.Str.{encode_same}
 use Rattle.source_text.specs.Characters.{is_name_character}
 use Rattle.rbs_lexer.specs.declared.pieces.Run.TheVariants as run
 use Rattle.rbs_lexer.specs.Pieces.{IsCharacter, Repeated, repeated_none, repeated_more}
-use Rattle.rbs_lexer.specs.Names.{IsNameRest, IsUpper, IsInterfaceName, IsLower, IsWord, starts_lower}
+use Rattle.rbs_lexer.specs.Names.{IsUpper, IsInterfaceName, IsLower, IsWord, starts_lower}
 use Rattle.rbs_lexer.specs.Scanned.{IsPiece, IsRun, IsLongest, begins_upper, begins_interface}
 use Rattle.rbs_lexer.proofs.Bytes.{ascii, and_true}
 use Rattle.rbs_lexer.proofs.Runs.{run_longest}

@@ -1,14 +1,12 @@
 -- Bytes divide into tokens in one way.
-use Rattle.std.proofs.Common.{ℕ, suc, ◌≡◌, ◌≢◌, ◌+◌, ◌-◌, ◌<◌, ◌≤◌, Bool, true, false, refl, sym, ◌∙◌, ap, subst, List, [], ◌∷◌, ◌++◌, length, take, drop, get_or, arith, length-take-le, take-append-drop}
-use Rattle.std.specs.Prelude.{◌==◌, ◌||◌}
-use Rattle.source_text.specs.Characters.{is_blank}
+use Rattle.std.proofs.Common.{ℕ, ◌≡◌, ◌+◌, ◌≤◌, true, false, refl, sym, ◌∙◌, ap, subst, List, [], ◌∷◌, length, take, drop, get_or, arith, length-take-le, take-append-drop}
 use Rattle.rbs_lexer.specs.declared.token.TokenKind.{TokenKind}
 use Rattle.rbs_lexer.specs.declared.token.TokenKind.TheVariants as kind
 use Rattle.rbs_lexer.specs.declared.token.SigToken.{SigToken}
 use Rattle.rbs_lexer.specs.Integers.{Fits64}
-use Rattle.rbs_lexer.specs.Kinds.{IsToken, IsMark, marks}
+use Rattle.rbs_lexer.specs.Kinds.{IsToken, marks}
 use Rattle.rbs_lexer.specs.Longest.{BeginsNone, BeginsWith}
-use Rattle.rbs_lexer.specs.Division.{is_gap, IsFit, span, token_of, End, whole, stray, past, Divides, at_end, at_gap, at_token, at_stray, at_past}
+use Rattle.rbs_lexer.specs.Division.{is_gap, IsFit, span, token_of, End, Divides, at_end, at_gap, at_token, at_stray, at_past}
 use Rattle.rbs_lexer.proofs.Listed.{Each, among_each}
 use Rattle.rbs_lexer.proofs.FirstBytes.{clash, empty_token, begins_none}
 use Rattle.rbs_lexer.proofs.OneKind.{one_kind}

@@ -1,14 +1,14 @@
 -- A token's text tells its kind.
-use Rattle.std.proofs.Common.{ℕ, ◌≡◌, ◌≢◌, Bool, true, false, refl, sym, ◌∙◌, ap, subst, List, [], ◌∷◌, ◌++◌, length, get_or, inl, inr, arith}
-use Rattle.std.specs.Prelude.{◌⊎◌, ◌==◌, ◌||◌, ◌&&◌, if◌then◌else◌}
+use Rattle.std.proofs.Common.{ℕ, ◌≡◌, Bool, true, false, refl, sym, ◌∙◌, ap, subst, List, [], ◌∷◌, ◌++◌, inl, inr, arith}
+use Rattle.std.specs.Prelude.{◌⊎◌, ◌==◌, ◌||◌, if◌then◌else◌}
 use Rattle.std.specs.Char.{is_ascii_digit, is_ascii_uppercase}
 use Rattle.rbs_lexer.specs.declared.token.TokenKind.{TokenKind}
 use Rattle.rbs_lexer.specs.declared.token.TokenKind.TheVariants as kind
 use Rattle.std.proofs.lemmas.Bool.{eqb-true}
 use Rattle.source_text.specs.Characters.{is_name_character}
-use Rattle.rbs_lexer.specs.Names.{IsNameRest, IsLower, IsUpper, IsInterfaceName, IsWord, IsMethodName, IsOperator, operators, starts_lower}
+use Rattle.rbs_lexer.specs.Names.{IsNameRest, IsLower, IsUpper, IsInterfaceName, IsWord, IsMethodName, operators, starts_lower}
 use Rattle.rbs_lexer.specs.Integers.{IsNumber}
-use Rattle.rbs_lexer.specs.Kinds.{IsToken, IsMark, marks}
+use Rattle.rbs_lexer.specs.Kinds.{IsToken, marks}
 use Rattle.rbs_lexer.specs.Scanned.{IsNoteRest, begins_upper, begins_interface}
 use Rattle.rbs_lexer.proofs.Bytes.{not_true, and_true}
 use Rattle.rbs_lexer.proofs.Listed.{Each, among_each}

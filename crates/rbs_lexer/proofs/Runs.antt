@@ -1,5 +1,5 @@
 -- What a run is, among the fronts that are pieces of its sort.
-use Rattle.std.proofs.Common.{ℕ, ◌≡◌, ◌≢◌, ◌+◌, ◌≤◌, Bool, true, refl, sym, ◌∙◌, ap, subst, List, [], ◌∷◌, ◌++◌, length, take, drop, arith, length-take-le, take-append-drop, length-drop}
+use Rattle.std.proofs.Common.{ℕ, ◌≡◌, ◌+◌, ◌≤◌, sym, ◌∙◌, subst, List, ◌++◌, length, take, drop, arith, length-take-le, take-append-drop, length-drop}
 use Rattle.std.proofs.Math.Seq.{take-add}
 use Rattle.rbs_lexer.specs.declared.pieces.Run.{Run}
 use Rattle.rbs_lexer.specs.Pieces.{Repeated}

@@ -1,13 +1,12 @@
 -- No piece of a run is a front of another one, so that a front of bytes is pieces in one way.
-use Rattle.std.proofs.Common.{ℕ, ◌≡◌, ◌≢◌, ◌+◌, ◌≤◌, Bool, true, false, refl, sym, ◌∙◌, ap, subst, List, [], ◌∷◌, ◌++◌, length, take, drop, append_assoc, inl, inr, arith, length-append, length-take-le, take-append-drop}
-use Rattle.std.specs.Prelude.{◌⊎◌, ◌==◌, not}
-use Rattle.std.specs.Char.{encode_utf8, IsScalar}
+use Rattle.std.proofs.Common.{ℕ, ◌≡◌, ◌≤◌, Bool, true, refl, sym, ◌∙◌, ap, subst, List, [], ◌∷◌, ◌++◌, length, append_assoc, inl, inr, arith, length-append}
+use Rattle.std.specs.Char.{encode_utf8}
 use Rattle.std.proofs.lemmas.List.{append_cancel_left, append-nil}
 use Rattle.std.proofs.lemmas.Str.{encode_same}
 use Rattle.rbs_lexer.specs.declared.pieces.Run.{Run}
 use Rattle.rbs_lexer.specs.declared.pieces.Run.TheVariants as run
-use Rattle.rbs_lexer.specs.Pieces.{IsCharacter, IsEscape, IsStringPiece, Repeated, repeated_none, repeated_more, is_plain, is_escaped}
-use Rattle.rbs_lexer.specs.Scanned.{IsPiece, NoPiece, IsRun}
+use Rattle.rbs_lexer.specs.Pieces.{IsCharacter, IsEscape, IsStringPiece, Repeated, repeated_none, repeated_more, is_plain}
+use Rattle.rbs_lexer.specs.Scanned.{IsPiece, NoPiece}
 use Rattle.rbs_lexer.proofs.Bytes.{ascii}
 
 -- the same character stands first

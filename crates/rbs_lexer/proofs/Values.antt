@@ -1,10 +1,8 @@
 -- The numbers that digits make.
-use Rattle.std.proofs.Common.{ℕ, suc, ◌≡◌, ◌+◌, ◌-◌, ◌*◌, ◌^◌, ◌<◌, ◌≤◌, Bool, true, false, refl, sym, ◌∙◌, ap, subst, List, [], ◌∷◌, length, take, drop, get_or, arith, add-one, drop-cons}
-use Rattle.std.specs.Prelude.{◌==◌, ◌/◌, ◌↔◌, IsTrue}
-use Rattle.std.proofs.lemmas.Bool.{eqb-true}
+use Rattle.std.proofs.Common.{ℕ, ◌≡◌, ◌+◌, ◌-◌, ◌*◌, ◌<◌, ◌≤◌, false, sym, ◌∙◌, ap, List, [], ◌∷◌, length, drop, get_or, arith, add-one, drop-cons}
+use Rattle.std.specs.Prelude.{◌/◌, ◌↔◌, IsTrue}
 use Rattle.std.proofs.lemmas.List.{drop_all}
-use Rattle.rbs_lexer.specs.Integers.{value_from, FitsSigned, Fits64}
-use Rattle.rbs_lexer.proofs.Bytes.{bool_cases}
+use Rattle.rbs_lexer.specs.Integers.{value_from}
 
 pub value_least : (m : ℕ) (w : List ℕ) → m ≤ value_from m w
 value_least m [] = omega arith

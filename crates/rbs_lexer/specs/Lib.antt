@@ -4,4 +4,5 @@ pub mod Integers
 pub mod Kinds
 pub mod Longest
 pub mod Division
+pub mod Standing
 pub mod Scanned

@@ -1,7 +1,8 @@
 //! The tokens of a text.
 
-ghost use Rattle.std.specs.Prelude.{◌≡◌, ◌↔◌, ◌<◌, ◌^◌, length, IsTrue};
+ghost use Rattle.std.specs.Prelude.{◌≡◌, ◌↔◌, ◌<◌, ◌^◌, length, IsTrue, IsUtf8, IfOk, IfErr, OnOk};
 ghost use Rattle.rbs_lexer.specs.Division.{is_gap, span, IsFit, Answers};
+ghost use Rattle.rbs_lexer.specs.Standing.{Stand, StandsRefused};
 
 use crate::found::first_token;
 use crate::integers::fits;
@@ -47,7 +48,12 @@ fn is_fit(kind: TokenKind, text: &[u8]) -> bool
 /// answered. The text needs no valid UTF-8: a byte that belongs to no character begins no token.
 pub fn tokens(alloc: Global, file: u32, bytes: &[u8]) -> Result<Many<SigToken>, LexRefused>
     requires { length bytes.now < 2 ^ 32 }
-    ensures { Answers file bytes.now result }
+    ensures answer { Answers file bytes.now result }
+
+    // What follows of a division, said plainly.
+    ensures stand { IfOk result (Stand file bytes.now 0) }
+    ensures utf8 { OnOk result (IsUtf8 bytes.now) }
+    ensures refused { IfErr result (StandsRefused file bytes.now) }
 {
     let mut tokens = Many::new(alloc);
     let mut at = 0;

@@ -1,4 +1,4 @@
-use Rattle.std.proofs.Common.{◌+◌, sym, subst}
+use Rattle.std.proofs.Common.{sym, subst}
 use Rattle.rbs_lexer.specs.Scanned.{Finds}
 use Rattle.rbs_lexer.proofs.FirstTokens.{comment_token}
 use Rattle.rbs_lexer.proofs.found.comment.Goals as goal

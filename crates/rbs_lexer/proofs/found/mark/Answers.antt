@@ -1,4 +1,4 @@
-use Rattle.std.proofs.Common.{◌+◌, ◌∙◌, sym, subst, ap}
+use Rattle.std.proofs.Common.{◌∙◌, sym, subst, ap}
 use Rattle.rbs_lexer.specs.Scanned.{Finds, is_pair}
 use Rattle.rbs_lexer.proofs.FirstTokens.{pair_token, mark_token, no_mark_token}
 use Rattle.rbs_lexer.proofs.found.mark.Goals as goal

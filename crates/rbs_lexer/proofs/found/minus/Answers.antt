@@ -1,4 +1,4 @@
-use Rattle.std.proofs.Common.{◌<◌, ◌+◌, ◌∙◌, sym, subst, arith}
+use Rattle.std.proofs.Common.{◌∙◌, sym, subst, arith}
 use Rattle.rbs_lexer.specs.declared.pieces.Run.TheVariants as run
 use Rattle.rbs_lexer.specs.Scanned.{IsPiece, IsRun, Finds}
 use Rattle.rbs_lexer.proofs.FirstTokens.{minus_token, negative_token}

@@ -1,4 +1,4 @@
-use Rattle.std.proofs.Common.{◌≡◌, ◌+◌, ◌∙◌, sym, subst, get_or, arith}
+use Rattle.std.proofs.Common.{◌+◌, ◌∙◌, sym, subst, arith}
 use Rattle.rbs_lexer.specs.Scanned.{IsNoteRest, IsLongest}
 use Rattle.rbs_lexer.proofs.Bytes.{fronted_two}
 use Rattle.rbs_lexer.proofs.FirstTokens.{note_longest, no_note}

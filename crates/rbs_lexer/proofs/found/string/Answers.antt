@@ -1,4 +1,4 @@
-use Rattle.std.proofs.Common.{ℕ, ◌≡◌, ◌+◌, ◌∷◌, ◌∙◌, sym, subst, arith, Some}
+use Rattle.std.proofs.Common.{ℕ, ◌≡◌, ◌+◌, ◌∷◌, ◌∙◌, sym, subst, arith}
 use Rattle.rbs_lexer.specs.declared.token.TokenKind.TheVariants as kind
 use Rattle.rbs_lexer.specs.Longest.{BeginsWith}
 use Rattle.rbs_lexer.specs.Scanned.{Finds}

@@ -1,4 +1,4 @@
-use Rattle.std.proofs.Common.{◌+◌, sym, subst, arith}
+use Rattle.std.proofs.Common.{sym, subst, arith}
 use Rattle.rbs_lexer.specs.Scanned.{Finds}
 use Rattle.rbs_lexer.proofs.FirstTokens.{symbol_token}
 use Rattle.rbs_lexer.proofs.found.symbol.Goals as goal

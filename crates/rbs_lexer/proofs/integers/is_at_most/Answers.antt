@@ -1,4 +1,4 @@
-use Rattle.std.proofs.Common.{◌≡◌, ◌≤◌, ◌<◌, ◌+◌, ◌-◌, ◌*◌, sym, ◌∙◌, ap, get_or, arith}
+use Rattle.std.proofs.Common.{◌∙◌}
 use Rattle.rbs_lexer.proofs.Values.{exceeds}
 use Rattle.rbs_lexer.proofs.integers.is_at_most.Goals as goal
 

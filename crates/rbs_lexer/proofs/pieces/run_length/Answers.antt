@@ -1,4 +1,4 @@
-use Rattle.std.proofs.Common.{◌≡◌, ap, sym, ◌∙◌, subst, arith, Some}
+use Rattle.std.proofs.Common.{subst, arith}
 use Rattle.rbs_lexer.specs.Pieces.{repeated_none}
 use Rattle.rbs_lexer.specs.Scanned.{IsPiece, IsFirst}
 use Rattle.rbs_lexer.proofs.Bytes.{rest_is}

@@ -1,11 +1,11 @@
-use Rattle.std.proofs.Common.{ℕ, ◌≡◌, ◌+◌, ◌-◌, ◌≤◌, true, false, Bool, sym, ◌∙◌, ap, subst, List, ◌∷◌, [], ◌++◌, take, drop, arith, refl}
+use Rattle.std.proofs.Common.{ℕ, ◌≡◌, ◌+◌, ◌-◌, true, false, Bool, sym, ◌∙◌, ap, subst, ◌∷◌, [], ◌++◌, take, drop, arith, refl}
 use Rattle.std.specs.Prelude.{IsTrue}
-use Rattle.rbs_lexer.specs.declared.token.SigToken.{SigToken}
 use Rattle.rbs_lexer.specs.Division.{IsFit, token_of}
 use Rattle.rbs_lexer.specs.Longest.{BeginsNone, BeginsWith}
 use Rattle.rbs_lexer.proofs.Bytes.{rest_is}
 use Rattle.rbs_lexer.proofs.FirstBytes.{clash}
 use Rattle.rbs_lexer.proofs.Loop.{Extends, gap_more, token_more, ended, strayed, passed}
+use Rattle.rbs_lexer.proofs.Laws.{stand, stand_stray, stand_past, divided_utf8}
 use Rattle.rbs_lexer.proofs.text.tokens.Goals as goal
 
 size_is : (at n : ℕ) → (at + n) - at ≡ n
@@ -27,7 +27,13 @@ loop-at-preserved-then-is_gap c = record {
 pub returns-in_default : goal.returns-in_default
 returns-in_default c =
     let none = subst BeginsNone (rest_is c.args.bytes.now c.loop-at.at) c.in_default.ensures in
-    (c.loop-at.tokens, c.loop-at.at, c.span.ensures, strayed c.args.file c.args.bytes.now c.loop-at.tokens c.loop-at.at c.loop-at.invariant.extends c.loop-at-test.true (sym c.is_gap.ensures ∙ c.if-is_gap.false) none)
+    let d = strayed c.args.file c.args.bytes.now c.loop-at.tokens c.loop-at.at c.loop-at.invariant.extends c.loop-at-test.true (sym c.is_gap.ensures ∙ c.if-is_gap.false) none in
+    record {
+      answer = (c.loop-at.tokens, c.loop-at.at, c.span.ensures, d);
+      stand = tt;
+      utf8 = tt;
+      refused = stand_stray c.args.file c.args.bytes.now c.span.result c.loop-at.tokens c.loop-at.at c.span.ensures d.divided;
+    }
 
 pub returns-then-not-is_fit : goal.returns-then-not-is_fit
 returns-then-not-is_fit c =
@@ -37,7 +43,13 @@ returns-then-not-is_fit c =
     let begins = subst (BeginsWith found.kind found.size) (rest_is bytes at) c.in-Some.ensures in
     let past = λ (h : IsFit found.kind (take found.size (drop at bytes))).
     is_not c.is_fit.result c.if-not-is_fit.true (c.is_fit.ensures.1 (subst (λ n. IsFit found.kind (take n (drop at bytes))) (sym (size_is at found.size)) h)) in
-    (c.loop-at.tokens, at, c.span-then-not-is_fit.ensures, passed c.args.file bytes c.loop-at.tokens at c.loop-at.invariant.extends found.kind found.size begins past)
+    let d = passed c.args.file bytes c.loop-at.tokens at c.loop-at.invariant.extends found.kind found.size begins past in
+    record {
+      answer = (c.loop-at.tokens, at, c.span-then-not-is_fit.ensures, d);
+      stand = tt;
+      utf8 = tt;
+      refused = stand_past c.args.file bytes c.span-then-not-is_fit.result c.loop-at.tokens at c.span-then-not-is_fit.ensures d.divided;
+    }
 
 pub loop-at-preserved : goal.loop-at-preserved
 loop-at-preserved c =
@@ -54,4 +66,6 @@ loop-at-preserved c =
     }
 
 pub returns : goal.returns
-returns c = ended c.args.file c.args.bytes.now c.loop-at.tokens c.loop-at.at c.loop-at.invariant.extends c.loop-at-test.false
+returns c =
+    let d = ended c.args.file c.args.bytes.now c.loop-at.tokens c.loop-at.at c.loop-at.invariant.extends c.loop-at-test.false in
+    record { answer = d; stand = stand c.args.file c.args.bytes.now c.loop-at.tokens d.divided; utf8 = divided_utf8 d.divided; refused = tt }
