@@ -5,9 +5,9 @@ ghost use Rattle.std.specs.Char.{is_ascii_digit};
 ghost use Rattle.source_text.specs.Characters.{starts_word};
 ghost use Rattle.rbs_lexer.specs.Scanned.{is_mark_byte, is_pair, begins_more, IsNoteRest, IsLongest, Finds};
 
-use crate::names::{begins_interface, byte_at, lower_length, method_name_length};
 use crate::pieces::{Run, run_length};
 use crate::token::TokenKind;
+use crate::words::{begins_interface, byte_at, lower_length, method_name_length};
 
 /// A token by its kind, and how many bytes it takes.
 #[derive(Clone, Copy, Debug, PartialEq, Eq)]

@@ -3,13 +3,13 @@
 
 mod found;
 mod integers;
-mod names;
 mod pieces;
 mod refused;
 #[cfg(test)]
 mod tests;
 mod text;
 mod token;
+mod words;
 
 pub use refused::LexRefused;
 pub use text::tokens;

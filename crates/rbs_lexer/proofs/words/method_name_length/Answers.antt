@@ -2,7 +2,7 @@ use Rattle.std.proofs.Common.{◌<◌, ◌∙◌, sym, subst, ap, arith}
 use Rattle.rbs_lexer.specs.Names.{IsWord, is_ending}
 use Rattle.rbs_lexer.specs.Scanned.{IsLongest}
 use Rattle.rbs_lexer.proofs.MethodNames.{operator_name, word_name, ended_name, inside, ending_some}
-use Rattle.rbs_lexer.proofs.names.method_name_length.Goals as goal
+use Rattle.rbs_lexer.proofs.words.method_name_length.Goals as goal
 
 pub returns-then-word-eq0 : goal.returns-then-word-eq0
 returns-then-word-eq0 c =

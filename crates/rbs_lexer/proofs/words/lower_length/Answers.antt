@@ -3,7 +3,7 @@ use Rattle.rbs_lexer.specs.Names.{IsLower}
 use Rattle.rbs_lexer.specs.Scanned.{IsLongest}
 use Rattle.rbs_lexer.proofs.Bytes.{fronted}
 use Rattle.rbs_lexer.proofs.NameFronts.{lower_short, lower_longest}
-use Rattle.rbs_lexer.proofs.names.lower_length.Goals as goal
+use Rattle.rbs_lexer.proofs.words.lower_length.Goals as goal
 
 pub returns-then-begins_interface : goal.returns-then-begins_interface
 returns-then-begins_interface c =

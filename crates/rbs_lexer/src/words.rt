@@ -1,4 +1,4 @@
-//! Names.
+//! The longest names that stand first.
 
 ghost use Rattle.std.specs.Prelude.{◌≡◌, ◌∷◌, slice_index};
 ghost use Rattle.rbs_lexer.specs.Names.{starts_lower, is_ending, IsLower, IsWord, IsOperator, IsMethodName};

@@ -2,7 +2,7 @@ use Rattle.std.proofs.Common.{◌∙◌, sym, subst, ap, get_or}
 use Rattle.rbs_lexer.specs.Names.{IsOperator}
 use Rattle.rbs_lexer.specs.Scanned.{IsLongest, operator_length}
 use Rattle.rbs_lexer.proofs.Operators.{operator_longest}
-use Rattle.rbs_lexer.proofs.names.operator_length.Goals as goal
+use Rattle.rbs_lexer.proofs.words.operator_length.Goals as goal
 
 pub returns : goal.returns
 returns c =

@@ -3,7 +3,7 @@ use Rattle.rbs_lexer.specs.Names.{IsWord}
 use Rattle.rbs_lexer.specs.Scanned.{IsLongest}
 use Rattle.rbs_lexer.proofs.Bytes.{fronted}
 use Rattle.rbs_lexer.proofs.NameFronts.{word_upper}
-use Rattle.rbs_lexer.proofs.names.word_length.Goals as goal
+use Rattle.rbs_lexer.proofs.words.word_length.Goals as goal
 
 pub returns-in-len1-up : goal.returns-in-len1-up
 returns-in-len1-up c =
