@@ -1,5 +1,5 @@
 class Cat
-  def initialize
+  def initialize(name)
     nil
   end
 
@@ -12,14 +12,20 @@ class Cat
   end
 
   def mood() :sleepy end
+
+  def meet(other)
+    guest = other
+    guest
+  end
 end
 
 class Box
-  def occupant
-    nil
-  end
+  def occupant(cat) cat end
 
   def label
     'cat\'s'
   end
 end
+
+name = "Tom"
+name

@@ -1,0 +1,15 @@
+pub mod Bytes
+pub mod SamePieces
+pub mod Runs
+pub mod Decoded
+pub mod NameFronts
+pub mod Listed
+pub mod Operators
+pub mod MethodNames
+pub mod FirstBytes
+pub mod FirstTokens
+pub mod Values
+pub mod OneKind
+pub mod OneDivision
+pub mod Loop
+pub mod Laws

@@ -1,0 +1,37 @@
+-- Where tokens stand in a text.
+use Rattle.std.specs.Prelude.{◌≡◌, ℕ, ◌+◌, ◌<◌, ◌≤◌, true, List, [], ◌∷◌, ◌++◌, length, drop, slice_range, take}
+use Rattle.rbs_lexer.specs.declared.token.TokenKind.{TokenKind}
+use Rattle.rbs_lexer.specs.declared.token.SigToken.{SigToken}
+use Rattle.rbs_lexer.specs.Kinds.{IsToken}
+use Rattle.rbs_lexer.specs.declared.token.TokenKind.TheVariants as kind
+use Rattle.rbs_lexer.specs.declared.refused.LexRefused.{LexRefused}
+use Rattle.rbs_lexer.specs.declared.refused.LexRefused.TheVariants as refused
+use Rattle.rbs_lexer.specs.Integers.{Fits64}
+use Rattle.rbs_lexer.specs.Longest.{BeginsNone, BeginsWith}
+use Rattle.rbs_lexer.specs.Division.{is_gap, span}
+
+-- blanks and newlines alone
+abbrev pub AreGaps : List ℕ → Type 0
+AreGaps [] = Unit {0}
+AreGaps (b ∷ bytes) = (is_gap b ≡ true) × AreGaps bytes
+
+-- the token's text is the slice of its span, before it from `at` on stand only blanks and newlines, and no token that begins there is longer
+pub record StandsBehind (file : ℕ) (bytes : List ℕ) (at : ℕ) (t : SigToken) : Type 0 where
+  pub its_file : t.place.file ≡ file
+  pub after : at ≤ t.place.start
+  pub some : t.place.start < t.place.end
+  pub within : t.place.end ≤ length bytes
+  pub gaps : AreGaps (slice_range bytes at t.place.start)
+  pub text : IsToken t.kind (slice_range bytes t.place.start t.place.end)
+  pub longest : (j : TokenKind) (w rest : List ℕ) → IsToken j w → drop t.place.start bytes ≡ w ++ rest → t.place.start + length w ≤ t.place.end
+
+-- the tokens stand in the bytes from `at` on, in order, and nothing else but blanks and newlines does
+abbrev pub Stand : ℕ → List ℕ → ℕ → List SigToken → Type 0
+Stand file bytes at [] = AreGaps (drop at bytes)
+Stand file bytes at (t ∷ ts) = StandsBehind file bytes at t × Stand file bytes t.place.end ts
+
+-- where a refusal stands: at a byte that begins no token, or at the first byte of an integer past 64 bits
+abbrev pub StandsRefused : ℕ → List ℕ → LexRefused → Type 0
+StandsRefused file bytes (refused.Fault place) = (at : ℕ) × (place ≡ span file at at) × (at < length bytes) × BeginsNone (drop at bytes)
+StandsRefused file bytes (refused.Limit place) = (at : ℕ) × (n : ℕ) × (place ≡ span file at at) × BeginsWith kind.Int n (drop at bytes) × (Fits64 (take n (drop at bytes)) → ⊥)
+StandsRefused file bytes refused.NoMemory = Unit {0}

@@ -1,0 +1,16 @@
+//! The tokens of signature text.
+#![tactic(auto)]
+
+mod found;
+mod integers;
+mod pieces;
+mod refused;
+#[cfg(test)]
+mod tests;
+mod text;
+mod token;
+mod words;
+
+pub use refused::LexRefused;
+pub use text::tokens;
+pub use token::{SigToken, TokenKind};
