@@ -12,4 +12,5 @@ pub mod Values
 pub mod OneKind
 pub mod OneDivision
 pub mod Loop
-pub mod Laws
+pub mod Stands
+pub mod Encoded

@@ -1,5 +1,6 @@
 -- Where tokens stand in a text.
-use Rattle.std.specs.Prelude.{◌≡◌, ℕ, ◌+◌, ◌<◌, ◌≤◌, true, List, [], ◌∷◌, ◌++◌, length, drop, slice_range, take}
+use Rattle.std.specs.Prelude.{◌≡◌, ℕ, ◌+◌, ◌<◌, ◌≤◌, true, List, [], ◌∷◌, ◌++◌, length, drop, slice_range, take, Result, Ok, Err}
+use Rattle.std.specs.Str.{IsValidUpTo}
 use Rattle.rbs_lexer.specs.declared.token.TokenKind.{TokenKind}
 use Rattle.rbs_lexer.specs.declared.token.SigToken.{SigToken}
 use Rattle.rbs_lexer.specs.Kinds.{IsToken}
@@ -35,3 +36,14 @@ abbrev pub StandsRefused : ℕ → List ℕ → LexRefused → Type 0
 StandsRefused file bytes (refused.Fault place) = (at : ℕ) × (place ≡ span file at at) × (at < length bytes) × BeginsNone (drop at bytes)
 StandsRefused file bytes (refused.Limit place) = (at : ℕ) × (n : ℕ) × (place ≡ span file at at) × BeginsWith kind.Int n (drop at bytes) × (Fits64 (take n (drop at bytes)) → ⊥)
 StandsRefused file bytes refused.NoMemory = Unit {0}
+
+-- a refusal stands at the byte `n` or before it
+abbrev pub RefusesUpTo : ℕ → Result (List SigToken) LexRefused → Type 0
+RefusesUpTo n (Ok ts) = ⊥
+RefusesUpTo n (Err (refused.Fault place)) = place.start ≤ n
+RefusesUpTo n (Err (refused.Limit place)) = place.start ≤ n
+RefusesUpTo n (Err refused.NoMemory) = Unit {0}
+
+-- the first byte that isn't UTF-8 begins no token: nothing is answered that stands behind it
+abbrev pub RefusesBroken : List ℕ → Result (List SigToken) LexRefused → Type 0
+RefusesBroken bytes result = (n : ℕ) → IsValidUpTo bytes n → BeginsNone (drop n bytes) × RefusesUpTo n result

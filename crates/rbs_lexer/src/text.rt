@@ -2,7 +2,7 @@
 
 ghost use Rattle.std.specs.Prelude.{◌≡◌, ◌↔◌, ◌<◌, ◌^◌, length, IsTrue, IsUtf8, IfOk, IfErr, OnOk};
 ghost use Rattle.rbs_lexer.specs.Division.{is_gap, span, IsFit, Answers};
-ghost use Rattle.rbs_lexer.specs.Standing.{Stand, StandsRefused};
+ghost use Rattle.rbs_lexer.specs.Standing.{Stand, StandsRefused, RefusesBroken};
 
 use crate::found::first_token;
 use crate::integers::fits;
@@ -54,6 +54,7 @@ pub fn tokens(alloc: Global, file: u32, bytes: &[u8]) -> Result<Many<SigToken>, 
     ensures stand { IfOk result (Stand file bytes.now 0) }
     ensures utf8 { OnOk result (IsUtf8 bytes.now) }
     ensures refused { IfErr result (StandsRefused file bytes.now) }
+    ensures broken { RefusesBroken bytes.now result }
 {
     let mut tokens = Many::new(alloc);
     let mut at = 0;

@@ -1,11 +1,12 @@
-use Rattle.std.proofs.Common.{ℕ, ◌≡◌, ◌+◌, ◌-◌, true, false, Bool, sym, ◌∙◌, ap, subst, ◌∷◌, [], ◌++◌, take, drop, arith, refl}
+use Rattle.std.proofs.Common.{ℕ, ◌≡◌, ◌+◌, ◌-◌, true, false, Bool, sym, ◌∙◌, ap, subst, ◌∷◌, [], ◌++◌, take, drop, arith, rules, refl}
 use Rattle.std.specs.Prelude.{IsTrue}
 use Rattle.rbs_lexer.specs.Division.{IsFit, token_of}
 use Rattle.rbs_lexer.specs.Longest.{BeginsNone, BeginsWith}
 use Rattle.rbs_lexer.proofs.Bytes.{rest_is}
 use Rattle.rbs_lexer.proofs.FirstBytes.{clash}
 use Rattle.rbs_lexer.proofs.Loop.{Extends, gap_more, token_more, ended, strayed, passed}
-use Rattle.rbs_lexer.proofs.Laws.{stand, stand_stray, stand_past, divided_utf8}
+use Rattle.rbs_lexer.proofs.Stands.{stand, stand_stray, stand_past}
+use Rattle.rbs_lexer.proofs.Encoded.{divided_utf8, broken_ok, broken_stray, broken_past, broken_none}
 use Rattle.rbs_lexer.proofs.text.tokens.Goals as goal
 
 size_is : (at n : ℕ) → (at + n) - at ≡ n
@@ -33,6 +34,7 @@ returns-in_default c =
       stand = tt;
       utf8 = tt;
       refused = stand_stray c.args.file c.args.bytes.now c.span.result c.loop-at.tokens c.loop-at.at c.span.ensures d.divided;
+      broken = broken_stray c.args.file c.args.bytes.now c.span.result c.loop-at.tokens c.loop-at.at c.span.ensures d.divided;
     }
 
 pub returns-then-not-is_fit : goal.returns-then-not-is_fit
@@ -49,6 +51,7 @@ returns-then-not-is_fit c =
       stand = tt;
       utf8 = tt;
       refused = stand_past c.args.file bytes c.span-then-not-is_fit.result c.loop-at.tokens at c.span-then-not-is_fit.ensures d.divided;
+      broken = broken_past c.args.file bytes c.span-then-not-is_fit.result c.loop-at.tokens at c.span-then-not-is_fit.ensures d.divided;
     }
 
 pub loop-at-preserved : goal.loop-at-preserved
@@ -68,4 +71,7 @@ loop-at-preserved c =
 pub returns : goal.returns
 returns c =
     let d = ended c.args.file c.args.bytes.now c.loop-at.tokens c.loop-at.at c.loop-at.invariant.extends c.loop-at-test.false in
-    record { answer = d; stand = stand c.args.file c.args.bytes.now c.loop-at.tokens d.divided; utf8 = divided_utf8 d.divided; refused = tt }
+    record { answer = d; stand = stand c.args.file c.args.bytes.now c.loop-at.tokens d.divided; utf8 = divided_utf8 d.divided; refused = tt; broken = broken_ok c.args.file c.args.bytes.now c.loop-at.tokens d.divided }
+
+pub returns-in_err-push-clause-broken : goal.returns-in_err-push-clause-broken
+returns-in_err-push-clause-broken c = λ n v. (broken_none c.args.bytes.now n v, search rules)

@@ -1,7 +1,10 @@
--- What follows of a division: where its tokens stand, and that the bytes are UTF-8.
-use Rattle.std.proofs.Common.{ℕ, zero, suc, ◌≡◌, ◌+◌, ◌-◌, ◌<◌, ◌≤◌, true, Bool, refl, sym, ◌∙◌, ap, subst, List, [], ◌∷◌, ◌++◌, length, take, drop, inl, inr, arith, drop-drop, length-drop, take-append-drop}
-use Rattle.std.specs.Prelude.{IsUtf8, encode_utf8, slice_range, nat_lt}
+-- What divides into tokens is UTF-8.
+use Rattle.std.proofs.Common.{ℕ, ◌≡◌, ◌+◌, ◌<◌, ◌≤◌, true, Bool, refl, sym, ◌∙◌, ap, subst, List, [], ◌∷◌, ◌++◌, length, take, drop, inl, inr, arith, drop-drop, take-append-drop, Ok, Err}
+use Rattle.std.proofs.lemmas.Bool.{cases_lt}
+use Rattle.std.specs.Prelude.{◌⊎◌, IsUtf8, encode_utf8, nat_lt}
 use Rattle.std.specs.Char.{IsScalar, is_ascii_digit, is_ascii_uppercase}
+use Rattle.std.specs.Str.{IsValidUpTo}
+use Rattle.std.proofs.Math.Seq.{take-add, take-append_seam, take-length}
 use Rattle.std.proofs.lemmas.Str.{IsUtf8-append, IsUtf8-encode, IsUtf8-nil}
 use Rattle.rbs_lexer.specs.declared.token.TokenKind.{TokenKind}
 use Rattle.rbs_lexer.specs.declared.token.TokenKind.TheVariants as kind
@@ -10,91 +13,16 @@ use Rattle.rbs_lexer.specs.Pieces.{IsCharacter, IsStringPiece, Repeated, repeate
 use Rattle.rbs_lexer.specs.Names.{IsNameRest, IsLower, IsUpper, IsWord, IsMethodName, operators, starts_lower, is_ending}
 use Rattle.sig_model.specs.declared.place.Place.{Place}
 use Rattle.rbs_lexer.specs.declared.refused.LexRefused.TheVariants as refused
-use Rattle.rbs_lexer.specs.Integers.{Fits64, IsNumber}
+use Rattle.rbs_lexer.specs.Integers.{IsNumber}
 use Rattle.rbs_lexer.specs.Kinds.{IsToken, marks}
 use Rattle.rbs_lexer.specs.Longest.{BeginsNone, BeginsWith}
-use Rattle.rbs_lexer.specs.Division.{is_gap, span, token_of, whole, stray, past, Divides, at_end, at_gap, at_token, at_stray, at_past}
-use Rattle.rbs_lexer.specs.Standing.{AreGaps, StandsBehind, Stand, StandsRefused}
+use Rattle.rbs_lexer.specs.Division.{is_gap, span, whole, stray, past, Divides, at_end, at_gap, at_token, at_stray, at_past}
+use Rattle.rbs_lexer.specs.Standing.{RefusesBroken}
 use Rattle.rbs_lexer.proofs.Bytes.{ascii}
 use Rattle.rbs_lexer.proofs.Listed.{Each, among_each}
 use Rattle.rbs_lexer.proofs.FirstBytes.{empty_token}
+use Rattle.rbs_lexer.proofs.Stands.{behind}
 
--- Where the tokens stand.
-module _ (file : ℕ) (bytes : List ℕ) where
-  -- the bytes behind a byte
-  behind : (at b : ℕ) (rest : List ℕ) → b ∷ rest ≡ drop at bytes → rest ≡ drop (at + 1) bytes
-  behind at b rest e = ap (drop 1) e ∙ drop-drop 1 at bytes
-
-  slice_more : (at m b : ℕ) (rest : List ℕ) → b ∷ rest ≡ drop at bytes → at + 1 ≤ m → slice_range bytes at m ≡ b ∷ slice_range bytes (at + 1) m
-  slice_more at m b rest e l =
-      let long : m - at ≡ suc (m - (at + 1)) = omega arith in
-      ap (λ n. take n (drop at bytes)) long ∙ ap (take (suc (m - (at + 1)))) (sym e) ∙ ap (λ rest. b ∷ take (m - (at + 1)) rest) (behind at b rest e)
-
-  stand_gap : (at b : ℕ) (rest : List ℕ) (ts : List SigToken) → is_gap b ≡ true → b ∷ rest ≡ drop at bytes → Stand file bytes (at + 1) ts → Stand file bytes at ts
-  stand_gap at b rest [] g e s = subst AreGaps e (g, subst AreGaps (sym (behind at b rest e)) s)
-  stand_gap at b rest (t ∷ ts) g e s =
-      let first = s.0 in (
-        record {
-          its_file = first.its_file;
-          after = omega (arith, first.after);
-          some = first.some;
-          within = first.within;
-          gaps = subst AreGaps (sym (slice_more at t.place.start b rest e first.after)) (g, first.gaps);
-          text = first.text;
-          longest = first.longest;
-        },
-        s.1,
-      )
-
-  size_is : (at n : ℕ) → (at + n) - at ≡ n
-  size_is at n = omega arith
-
-  nothing : (at : ℕ) → AreGaps (slice_range bytes at at)
-  nothing at = let none : at - at ≡ 0 = omega arith in subst (λ n. AreGaps (take n (drop at bytes))) (sym none) tt
-
-  size_some : (k : TokenKind) (n : ℕ) (rest : List ℕ) → BeginsWith k n rest → 0 < n
-  size_some k zero rest h = absurd (empty_token k h.token)
-  size_some k (suc n) rest h = omega arith
-
-  stand_token : (at n : ℕ) (k : TokenKind) → BeginsWith k n (drop at bytes) → StandsBehind file bytes at (token_of k (span file at (at + n)))
-  stand_token at n k h = record {
-    its_file = refl;
-    after = omega arith;
-    some = omega (arith, size_some k n (drop at bytes) h);
-    within = omega (arith, h.within, length-drop at bytes, size_some k n (drop at bytes) h);
-    gaps = nothing at;
-    text = subst (λ n. IsToken k (take n (drop at bytes))) (sym (size_is at n)) h.token;
-    longest = λ j w rest p e. omega (arith, h.longest j w rest p e);
-  }
-
-  stand_from : {at : ℕ} {ts : List SigToken} {rest : List ℕ} → Divides file at ts whole rest → rest ≡ drop at bytes → Stand file bytes at ts
-  stand_from at_end e = subst AreGaps e tt
-  stand_from (at_gap {at = at} {b = b} {ts = ts} {bytes = rest} g d) e = stand_gap at b rest ts g e (stand_from d (behind at b rest e))
-  stand_from {rest = rest} (at_token {at = at} {n = n} {k = k} h f d) e =
-      (stand_token at n k (subst (BeginsWith k n) e h), stand_from d (ap (drop n) e ∙ drop-drop n at bytes))
-
-  pub stand : (ts : List SigToken) → Divides file 0 ts whole bytes → Stand file bytes 0 ts
-  stand ts d = stand_from d refl
-
-  -- where a division ends before the bytes do
-  stray_from : {at p : ℕ} {ts : List SigToken} {rest : List ℕ} → Divides file at ts (stray p) rest → rest ≡ drop at bytes → (p < length bytes) × BeginsNone (drop p bytes)
-  stray_from (at_gap {at = at} {b = b} {bytes = rest} g d) e = stray_from d (behind at b rest e)
-  stray_from (at_token {at = at} {n = n} h f d) e = stray_from d (ap (drop n) e ∙ drop-drop n at bytes)
-  stray_from (at_stray {at = at} {b = b} {bytes = rest} g h) e = (omega (arith, ap length e, length-drop at bytes), subst BeginsNone e h)
-
-  past_from : {at p : ℕ} {ts : List SigToken} {rest : List ℕ} → Divides file at ts (past p) rest → rest ≡ drop at bytes
-      → (n : ℕ) × BeginsWith kind.Int n (drop p bytes) × (Fits64 (take n (drop p bytes)) → ⊥)
-  past_from (at_gap {at = at} {b = b} {bytes = rest} g d) e = past_from d (behind at b rest e)
-  past_from (at_token {at = at} {n = n} h f d) e = past_from d (ap (drop n) e ∙ drop-drop n at bytes)
-  past_from (at_past {n = n} h f) e = (n, subst (BeginsWith kind.Int n) e h, subst (λ rest. Fits64 (take n rest) → ⊥) e f)
-
-  pub stand_stray : (place : Place) (ts : List SigToken) (at : ℕ) → place ≡ span file at at → Divides file 0 ts (stray at) bytes → StandsRefused file bytes (refused.Fault place)
-  stand_stray place ts at e d = let h = stray_from d refl in (at, e, h.0, h.1)
-
-  pub stand_past : (place : Place) (ts : List SigToken) (at : ℕ) → place ≡ span file at at → Divides file 0 ts (past at) bytes → StandsRefused file bytes (refused.Limit place)
-  stand_past place ts at e d = let h = past_from d refl in (at, h.0, e, h.1, h.2)
-
--- UTF-8.
 utf8_byte : (b : ℕ) (w : List ℕ) → nat_lt b 128 ≡ true → IsScalar b → IsUtf8 w → IsUtf8 (b ∷ w)
 utf8_byte b w a s u = subst IsUtf8 (ap (λ x. x ++ w) (ascii b a)) (IsUtf8-append (encode_utf8 b) w (IsUtf8-encode b s) u)
 
@@ -198,3 +126,56 @@ divided_utf8 at_end = IsUtf8-nil
 divided_utf8 (at_gap {b = b} {bytes = bytes} g d) = utf8_byte b bytes (gap_plain b g).0 (gap_plain b g).1 (divided_utf8 d)
 divided_utf8 {bytes = bytes} (at_token {n = n} {k = k} h f d) =
     subst IsUtf8 (take-append-drop n bytes) (IsUtf8-append (take n bytes) (drop n bytes) (utf8_token k (take n bytes) h.token) (divided_utf8 d))
+
+-- Bytes that aren't UTF-8 from `n` on.
+module _ (bytes : List ℕ) (n : ℕ) (v : IsValidUpTo bytes n) where
+  pub broken_none : BeginsNone (drop n bytes)
+  broken_none k [] rest h e = empty_token k h
+  broken_none k (b ∷ w) rest h e =
+      let m = length (b ∷ w) in
+      let front : take m (drop n bytes) ≡ b ∷ w = ap (take m) e ∙ take-append_seam (b ∷ w) rest in
+      let more : take (n + m) bytes ≡ take n bytes ++ (b ∷ w) = take-add n m bytes ∙ ap (λ x. take n bytes ++ x) front in
+      v.longest (n + m) (omega arith) (subst IsUtf8 (sym more) (IsUtf8-append (take n bytes) (b ∷ w) v.front (utf8_token k (b ∷ w) h)))
+
+  up_to : (p : ℕ) → IsUtf8 (take p bytes) → p ≤ n
+  up_to p u = either (cases_lt n p)
+    where
+      either : (n < p) ⊎ (p ≤ n) → p ≤ n
+      either (inl l) = absurd (v.longest p l u)
+      either (inr l) = l
+
+  not_utf8 : IsUtf8 bytes → ⊥
+  not_utf8 u = v.longest (length bytes) v.short (subst IsUtf8 (sym (take-length bytes)) u)
+
+-- the bytes before the end of a division
+module _ (file : ℕ) (bytes : List ℕ) where
+  utf8_gap : (at b : ℕ) (rest : List ℕ) → is_gap b ≡ true → b ∷ rest ≡ drop at bytes → IsUtf8 (take at bytes) → IsUtf8 (take (at + 1) bytes)
+  utf8_gap at b rest g e u =
+      subst IsUtf8 (sym (take-add at 1 bytes)) (IsUtf8-append (take at bytes) (take 1 (drop at bytes)) u
+      (subst (λ x. IsUtf8 (take 1 x)) e (utf8_byte b [] (gap_plain b g).0 (gap_plain b g).1 IsUtf8-nil)))
+
+  utf8_more : (at n : ℕ) (k : TokenKind) (rest : List ℕ) → BeginsWith k n rest → rest ≡ drop at bytes → IsUtf8 (take at bytes) → IsUtf8 (take (at + n) bytes)
+  utf8_more at n k rest h e u =
+      subst IsUtf8 (sym (take-add at n bytes)) (IsUtf8-append (take at bytes) (take n (drop at bytes)) u (subst (λ x. IsUtf8 (take n x)) e (utf8_token k (take n rest) h.token)))
+
+  utf8_stray : {at p : ℕ} {ts : List SigToken} {rest : List ℕ} → Divides file at ts (stray p) rest → rest ≡ drop at bytes → IsUtf8 (take at bytes) → IsUtf8 (take p bytes)
+  utf8_stray (at_gap {at = at} {b = b} {bytes = rest} g d) e u = utf8_stray d (behind file bytes at b rest e) (utf8_gap at b rest g e u)
+  utf8_stray {rest = rest} (at_token {at = at} {n = n} {k = k} h f d) e u = utf8_stray d (ap (drop n) e ∙ drop-drop n at bytes) (utf8_more at n k rest h e u)
+  utf8_stray (at_stray g h) e u = u
+
+  utf8_past : {at p : ℕ} {ts : List SigToken} {rest : List ℕ} → Divides file at ts (past p) rest → rest ≡ drop at bytes → IsUtf8 (take at bytes) → IsUtf8 (take p bytes)
+  utf8_past (at_gap {at = at} {b = b} {bytes = rest} g d) e u = utf8_past d (behind file bytes at b rest e) (utf8_gap at b rest g e u)
+  utf8_past {rest = rest} (at_token {at = at} {n = n} {k = k} h f d) e u = utf8_past d (ap (drop n) e ∙ drop-drop n at bytes) (utf8_more at n k rest h e u)
+  utf8_past (at_past h f) e u = u
+
+  pub broken_ok : (ts : List SigToken) → Divides file 0 ts whole bytes → RefusesBroken bytes (Ok ts)
+  broken_ok ts d n v = (broken_none bytes n v, not_utf8 bytes n v (divided_utf8 d))
+
+  start_of : (place : Place) (at n : ℕ) → place ≡ span file at at → at ≤ n → place.start ≤ n
+  start_of place at n e l = subst (λ (p : Place). p.start ≤ n) (sym e) l
+
+  pub broken_stray : (place : Place) (ts : List SigToken) (at : ℕ) → place ≡ span file at at → Divides file 0 ts (stray at) bytes → RefusesBroken bytes (Err (refused.Fault place))
+  broken_stray place ts at e d n v = (broken_none bytes n v, start_of place at n e (up_to bytes n v at (utf8_stray d refl IsUtf8-nil)))
+
+  pub broken_past : (place : Place) (ts : List SigToken) (at : ℕ) → place ≡ span file at at → Divides file 0 ts (past at) bytes → RefusesBroken bytes (Err (refused.Limit place))
+  broken_past place ts at e d n v = (broken_none bytes n v, start_of place at n e (up_to bytes n v at (utf8_past d refl IsUtf8-nil)))
