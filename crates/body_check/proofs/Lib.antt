@@ -1,2 +1,7 @@
 pub mod Found
-pub mod Openings
+pub mod PlainNames
+pub mod Rules
+pub mod Indexed
+pub mod Matched
+pub mod Joined
+pub mod Judged

@@ -1,4 +1,7 @@
 pub mod Types
 pub mod Table
-pub mod Values
-pub mod Bodies
+pub mod Calls
+pub mod Typing
+pub mod Faults
+pub mod Matching
+pub mod Walk

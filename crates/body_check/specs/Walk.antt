@@ -59,6 +59,15 @@ abbrev pub with_type : Option ValueType → Option (List ValueType) → Option (
 with_type (Some t) (Some ts) = Some (t ∷ ts)
 with_type _ _ = None
 
+-- the types of some expressions, and then those of others
+abbrev pub joined : Option (List ValueType) → Option (List ValueType) → Option (List ValueType)
+joined (Some ts) (Some us) = Some (ts ++ us)
+joined _ _ = None
+
+abbrev pub with_last : Option (List ValueType) → Option ValueType → Option (List ValueType)
+with_last (Some ts) (Some t) = Some (ts ++ t ∷ [])
+with_last _ _ = None
+
 module _ (classes : List ClassMethods) (locals : Locals) where
   abbrev mutual
     pub type_of : PlainExpression → Option ValueType

@@ -1,273 +1,156 @@
-//! A program against its signature: whether it defines what is declared, and which bodies don't fit.
+//! The faults of a program against its signature.
+#![tactic(auto, using(crate::proofs::Rules::plain_steps))]
 
-ghost use Rattle.std.specs.Prelude.{◌≡◌, ◌++◌, [], ◌∷◌, IfOk, OnOk, IsOkAnd, MatchOption, MatchBool, map};
-ghost use Rattle.std.specs.List.{AllByRecursion, IsDistinct};
-ghost use Rattle.std.specs.Option.{option_copied, option_to_list};
-ghost use Rattle.std.specs.Prelude.{IsTrue, ◌↔◌};
-ghost use Rattle.names.specs.Places.{same_name};
-ghost use Rattle.body_check.specs.Bodies.{SameNames, class_names, method_names, defined_names, opened_names, methods_in, method_in, HasArity, DefinesJust, IsDefined, Matches, mismatch, fault_against, fault_of_method, fault_of, faults_in, faults_of_classes, faults};
+ghost use Rattle.std.specs.Prelude.{◌≡◌, ◌++◌, Some, List, IfOk, OnOk, MatchOption};
+ghost use Rattle.sig_model.specs.declared.diag.Diag.{Diag};
+ghost use Rattle.ruby_reader.specs.PlainLaws.{plain_definition, plain_definitions, plain_openings, plain_program};
+ghost use Rattle.body_check.specs.Calls.{methods_in};
+ghost use Rattle.body_check.specs.Matching.{method_names, Matches, IsIndex};
+ghost use Rattle.body_check.specs.Faults.{OfProgram};
+ghost use Rattle.body_check.specs.Walk as walk;
 
+use crate::expressions::{Checker, Locals};
+use crate::index::{index_of, method_in};
+use crate::matching::matches;
 use crate::table::{ClassMethods, MethodEntry};
 use crate::ty::{ValueType, fits, type_text};
-use crate::values::{body_type, with_parameters};
-use names::{Names, all_among, names_of};
-use plain_data::{Many, NoMemory, Word};
+use crate::values::with_parameters;
+use names::Names;
+use plain_data::{Many, NoMemory};
 use ruby_reader::{Definition, Opening, Program};
 use sig_model::diag::{Diag, DiagId};
 use sig_model::place::Place;
 use std::alloc::Global;
 
-/// The methods of the class with a name, where the index has the classes' names.
-fn methods_in<'a>(classes: &'a [ClassMethods], index: &Names, name: &Word) -> &'a [MethodEntry]
-    requires { index.now ≡ class_names classes.now }
-    ensures { result.now ≡ methods_in name.now classes.now }
-{
-    match index.place_of(name) {
-        Some(place) => classes[place].methods.as_slice(),
-        None => &[],
+impl<'a> Checker<'a> {
+    /// Lists a body that gives one type where another is wanted, if it does.
+    fn check_result(
+        &self,
+        start: u32,
+        wanted: &ValueType,
+        given: &ValueType,
+        list: &mut Many<Diag>,
+    ) -> Result<(), NoMemory>
+        ensures { OnOk result (list.new ≡ list.old ++ walk.misfit_fault self.now.file start wanted.now (Some given.now)) }
+    {
+        if fits(given, wanted) {
+            return Ok(());
+        }
+        let mut args = Many::new(self.alloc);
+        args.push(type_text(self.alloc, given)?)?;
+        args.push(type_text(self.alloc, wanted)?)?;
+        list.push(Diag {
+            place: Place {
+                file: self.file,
+                start,
+                end: start,
+            },
+            id: DiagId::MethodBodyTypeMismatch,
+            args,
+        })?;
+        Ok(())
     }
-}
 
-/// The method with a name, where the index has the methods' names.
-fn method_in<'a>(methods: &'a [MethodEntry], index: &Names, name: &Word) -> Option<&'a MethodEntry>
-    requires { index.now ≡ method_names methods.now }
-    ensures { option_copied result ≡ method_in name.now methods.now }
-{
-    let place = index.place_of(name)?;
-    Some(&methods[place])
-}
-
-/// A body that gives one type where another is wanted.
-fn mismatch(
-    alloc: Global,
-    file: u32,
-    start: u32,
-    given: &ValueType,
-    wanted: &ValueType,
-) -> Result<Diag, NoMemory>
-    ensures { IfOk result (λ diag. diag ≡ mismatch file start given.now wanted.now) }
-{
-    let mut args = Many::new(alloc);
-    args.push(type_text(alloc, given)?)?;
-    args.push(type_text(alloc, wanted)?)?;
-    Ok(Diag {
-        place: Place {
-            file,
-            start,
-            end: start,
-        },
-        id: DiagId::MethodBodyTypeMismatch,
-        args,
-    })
-}
-
-/// The fault of a body that gives a type where another is wanted.
-fn fault_against(
-    alloc: Global,
-    file: u32,
-    start: u32,
-    given: &ValueType,
-    wanted: &ValueType,
-) -> Result<Option<Diag>, NoMemory>
-    ensures { IfOk result (λ fault. option_to_list fault ≡ fault_against file start (Some given.now) wanted.now) }
-{
-    if fits(given, wanted) {
-        return Ok(None);
-    }
-    let fault = mismatch(alloc, file, start, given, wanted)?;
-    Ok(Some(fault))
-}
-
-/// The fault of a definition of a method.
-fn fault_of_method(
-    alloc: Global,
-    file: u32,
-    definition: &Definition,
-    method: &MethodEntry,
-) -> Result<Option<Diag>, NoMemory>
-    ensures { IfOk result (λ fault. option_to_list fault ≡ fault_of_method file definition.now method.now) }
-{
-    let locals = with_parameters(
-        alloc,
-        definition.parameters.as_slice(),
-        method.parameters.as_slice(),
-    )?;
-    match body_type(alloc, locals, definition.body.as_slice())? {
-        Some(given) => fault_against(alloc, file, definition.start, &given, &method.gives),
-        None => Ok(None),
-    }
-}
-
-/// The fault of a definition, where the index has the names of its class's methods.
-fn fault_of(
-    alloc: Global,
-    file: u32,
-    methods: &[MethodEntry],
-    index: &Names,
-    definition: &Definition,
-) -> Result<Option<Diag>, NoMemory>
-    requires { index.now ≡ method_names methods.now }
-    ensures { IfOk result (λ fault. option_to_list fault ≡ fault_of file methods.now definition.now) }
-{
-    match method_in(methods, index, &definition.name) {
-        Some(method) => fault_of_method(alloc, file, definition, method),
-        None => Ok(None),
-    }
-}
-
-/// Whether a definition has as many parameters as its method requires.
-fn has_arity(methods: &[MethodEntry], index: &Names, definition: &Definition) -> bool
-    requires { index.now ≡ method_names methods.now }
-    ensures { IsTrue result ↔ HasArity methods.now definition.now }
-{
-    match method_in(methods, index, &definition.name) {
-        Some(method) => method.parameters.len() == definition.parameters.len(),
-        None => false,
-    }
-}
-
-/// Whether each definition has as many parameters as its method requires.
-fn have_arity(methods: &[MethodEntry], index: &Names, definitions: &[Definition]) -> bool
-    requires { index.now ≡ method_names methods.now }
-    ensures { IsTrue result ↔ AllByRecursion (HasArity methods.now) definitions.now }
-{
-    for definition in definitions {
-        if !has_arity(methods, index, definition) {
-            return false;
+    /// Lists the faults of a definition of a method.
+    fn check_method(
+        &self,
+        definition: &Definition,
+        method: &MethodEntry,
+        list: &mut Many<Diag>,
+    ) -> Result<(), NoMemory>
+        requires { IsIndex self.now.classes.now self.now.index.now }
+        ensures { OnOk result (list.new ≡ list.old ++ walk.faults_of_method self.now.file self.now.classes.now (plain_definition definition.now) method.now) }
+    {
+        let names = definition.parameters.as_slice();
+        let locals = with_parameters(self.alloc, names, method.parameters.as_slice())?;
+        match self.check_statements(locals, definition.body.as_slice(), list)? {
+            Some(given) => self.check_result(definition.start, &method.gives, &given, list),
+            None => Ok(()),
         }
     }
-    true
-}
 
-/// Adds the faults of a class's definitions, where the index has the names of its methods.
-fn add_faults(
-    alloc: Global,
-    file: u32,
-    methods: &[MethodEntry],
-    index: &Names,
-    definitions: &[Definition],
-    list: &mut Many<Diag>,
-) -> Result<(), NoMemory>
-    requires { index.now ≡ method_names methods.now }
-    ensures { OnOk result (list.new ≡ list.old ++ faults_in file methods.now definitions.now) }
-{
-    for definition in definitions {
-        if let Some(fault) = fault_of(alloc, file, methods, index, definition)? {
-            list.push(fault)?;
+    /// Lists the faults of a class's definitions, where the index has the names of its methods.
+    fn check_definitions(
+        &self,
+        methods: &[MethodEntry],
+        index: &Names,
+        definitions: &[Definition],
+        list: &mut Many<Diag>,
+    ) -> Result<(), NoMemory>
+        requires classes { IsIndex self.now.classes.now self.now.index.now }
+        requires methods { index.now ≡ method_names methods.now }
+        ensures { OnOk result (list.new ≡ list.old ++ walk.faults_of_definitions self.now.file self.now.classes.now methods.now (plain_definitions definitions.now)) }
+    {
+        for definition in definitions {
+            if let Some(method) = method_in(methods, index, &definition.name) {
+                self.check_method(definition, method, list)?;
+            }
+        }
+        Ok(())
+    }
+
+    /// Lists the faults of an opening's definitions.
+    fn check_opening(&self, opening: &Opening, list: &mut Many<Diag>) -> Result<(), NoMemory>
+        requires { IsIndex self.now.classes.now self.now.index.now }
+        ensures { OnOk result (list.new ≡ list.old ++ walk.faults_of_definitions self.now.file self.now.classes.now (methods_in opening.now.name self.now.classes.now) (plain_definitions opening.now.definitions)) }
+    {
+        match self.index.classes.place_of(&opening.name) {
+            Some(place) => self.check_definitions(
+                self.classes[place].methods.as_slice(),
+                &self.index.methods.as_slice()[place],
+                opening.definitions.as_slice(),
+                list,
+            ),
+            None => Ok(()),
         }
     }
-    Ok(())
-}
 
-/// Whether these definitions are those of just these methods, where the index has the methods' names.
-fn defines_just(
-    alloc: Global,
-    methods: &[MethodEntry],
-    index: &Names,
-    definitions: &[Definition],
-) -> Result<bool, NoMemory>
-    requires distinct { IsDistinct same_name (method_names methods.now) }
-    requires index { index.now ≡ method_names methods.now }
-    ensures { IfOk result (λ just. IsTrue just ↔ DefinesJust methods.now definitions.now) }
-{
-    let Some(defined) = names_of(alloc, definitions)? else {
-        return Ok(false);
-    };
-    if !all_among(methods, &defined) {
-        return Ok(false);
-    }
-    if !all_among(definitions, index) {
-        return Ok(false);
-    }
-    Ok(have_arity(methods, index, definitions))
-}
-
-/// Adds the faults of a class's definitions, and answers true, where they are just its methods.
-fn check_class(
-    alloc: Global,
-    file: u32,
-    methods: &[MethodEntry],
-    definitions: &[Definition],
-    list: &mut Many<Diag>,
-) -> Result<bool, NoMemory>
-    ensures { IfOk result (λ just. MatchBool just
-        (DefinesJust methods.now definitions.now × (list.new ≡ list.old ++ faults_in file methods.now definitions.now))
-        (¬ (DefinesJust methods.now definitions.now))) }
-{
-    let Some(declared) = names_of(alloc, methods)? else {
-        return Ok(false);
-    };
-    if !defines_just(alloc, methods, &declared, definitions)? {
-        return Ok(false);
-    }
-    add_faults(alloc, file, methods, &declared, definitions, list)?;
-    Ok(true)
-}
-
-/// Whether the classes of the signature are those that are opened, each once.
-fn is_opened(
-    alloc: Global,
-    classes: &[ClassMethods],
-    declared: &Names,
-    openings: &[Opening],
-) -> Result<bool, NoMemory>
-    requires distinct { IsDistinct same_name (class_names classes.now) }
-    requires index { declared.now ≡ class_names classes.now }
-    ensures { IfOk result (λ same. IsTrue same ↔ SameNames (class_names classes.now) (opened_names openings.now)) }
-{
-    let Some(opened) = names_of(alloc, openings)? else {
-        return Ok(false);
-    };
-    if !all_among(classes, &opened) {
-        return Ok(false);
-    }
-    Ok(all_among(openings, declared))
-}
-
-/// The faults of the openings one after another, or `None` where one doesn't define just the methods of its class.
-fn check_openings(
-    alloc: Global,
-    file: u32,
-    classes: &[ClassMethods],
-    index: &Names,
-    openings: &[Opening],
-) -> Result<Option<Many<Diag>>, NoMemory>
-    requires { index.now ≡ class_names classes.now }
-    ensures { IfOk result (λ found. MatchOption found (¬ (AllByRecursion (IsDefined classes.now) openings.now))
-        (λ list. AllByRecursion (IsDefined classes.now) openings.now × (list ≡ faults_of_classes file classes.now openings.now))) }
-{
-    let mut list = Many::new(alloc);
-    for opening in openings {
-        let methods = methods_in(classes, index, &opening.name);
-        if !check_class(
-            alloc,
-            file,
-            methods,
-            opening.definitions.as_slice(),
-            &mut list,
-        )? {
-            return Ok(None);
+    /// Lists the faults of openings one after another.
+    fn check_openings(&self, openings: &[Opening], list: &mut Many<Diag>) -> Result<(), NoMemory>
+        requires { IsIndex self.now.classes.now self.now.index.now }
+        ensures { OnOk result (list.new ≡ list.old ++ walk.faults_of_openings self.now.file self.now.classes.now (plain_openings openings.now)) }
+    {
+        for opening in openings {
+            self.check_opening(opening, list)?;
         }
+        Ok(())
     }
-    Ok(Some(list))
+
+    /// The faults of a program in its order.
+    fn check_program(&self, program: &Program) -> Result<Many<Diag>, NoMemory>
+        requires { IsIndex self.now.classes.now self.now.index.now }
+        ensures { IfOk result (λ list. list ≡ walk.faults_of_program self.now.file self.now.classes.now (plain_program program.now)) }
+    {
+        let mut list = Many::new(self.alloc);
+        self.check_openings(program.openings.as_slice(), &mut list)?;
+        let locals: Locals = Locals::new(self.alloc);
+        self.check_statements(locals, program.statements.as_slice(), &mut list)?;
+        Ok(list)
+    }
 }
 
-/// The faults of a program's bodies in its order, or `None` where the program doesn't define just what the classes declare.
+/// The faults of a program in its order, or `None` where it doesn't define just what the classes declare.
 pub fn check(
     alloc: Global,
     file: u32,
     classes: &[ClassMethods],
     program: &Program,
 ) -> Result<Option<Many<Diag>>, NoMemory>
-    ensures { IfOk result (λ found. MatchOption found (¬ (Matches classes.now program.now))
-        (λ list. Matches classes.now program.now × (list ≡ faults file classes.now program.now))) }
+    ensures { IfOk result (λ found. MatchOption found (¬ (Matches classes.now (plain_program program.now)))
+        (λ list. Matches classes.now (plain_program program.now) × OfProgram file classes.now (plain_program program.now) list
+            × ((other : List Diag) → OfProgram file classes.now (plain_program program.now) other → other ≡ list))) }
 {
-    let Some(index) = names_of(alloc, classes)? else {
+    let Some(index) = index_of(alloc, classes)? else {
         return Ok(None);
     };
-    let openings = program.openings.as_slice();
-    if !is_opened(alloc, classes, &index, openings)? {
+    if !matches(alloc, classes, &index, program)? {
         return Ok(None);
     }
-    check_openings(alloc, file, classes, &index, openings)
+    let checker = Checker {
+        alloc,
+        file,
+        classes,
+        index: &index,
+    };
+    Ok(Some(checker.check_program(program)?))
 }

@@ -1,5 +1,5 @@
 //! The types of expressions, and the faults in them.
-#![tactic(auto, using(crate::proofs::Rules::plain_steps))]
+#![tactic(auto, using(crate::proofs::Rules::plain_steps, crate::proofs::Joined::joined_more, crate::proofs::Joined::joined_none, crate::proofs::Joined::joined_all))]
 
 ghost use Rattle.std.specs.Prelude.{◌≡◌, ◌++◌, IfOk, OnOk};
 ghost use Rattle.ruby_reader.specs.PlainLaws.{plain_expression, plain_expressions};
@@ -55,10 +55,12 @@ fn given_by(
 }
 
 /// The types with one more at their end, if there are all.
-fn with_type(
+fn with_last(
     types: Option<Many<ValueType>>,
     ty: Option<ValueType>,
-) -> Result<Option<Many<ValueType>>, NoMemory> {
+) -> Result<Option<Many<ValueType>>, NoMemory>
+    ensures { IfOk result (λ all. all ≡ walk.with_last types ty) }
+{
     match (types, ty) {
         (Some(types), Some(ty)) => {
             let mut types = types;
@@ -128,7 +130,7 @@ impl<'a> Checker<'a> {
         let mut types = Some(Many::new(self.alloc));
         for expression in expressions {
             let ty = self.check(locals, expression, list)?;
-            types = with_type(types, ty)?;
+            types = with_last(types, ty)?;
         }
         Ok(types)
     }

@@ -1,7 +1,11 @@
-//! Ruby bodies, checked against the signature of their classes.
+//! Ruby programs, checked against the signature of their classes.
 #![tactic(auto)]
 
 mod bodies;
+mod calls;
+mod expressions;
+mod index;
+mod matching;
 mod named;
 mod table;
 mod ty;

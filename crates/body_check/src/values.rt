@@ -1,18 +1,21 @@
-//! The types of expressions and bodies.
+//! The types of parameters, statements and bodies.
+#![tactic(auto, using(crate::proofs::Rules::plain_steps))]
 
-ghost use Rattle.std.specs.Prelude.{◌≡◌, [], IfOk, OnOk};
+ghost use Rattle.std.specs.Prelude.{◌≡◌, ◌++◌, [], Some, IfOk, OnOk};
 ghost use Rattle.ruby_reader.specs.declared.tree.Statement.TheVariants as statement;
-ghost use Rattle.std.specs.Option.{option_copied};
-ghost use Rattle.body_check.specs.Values.{type_in, with_local, with_parameters, type_of, given_by, locals_behind, given_behind, body_type};
+ghost use Rattle.ruby_reader.specs.PlainLaws.{plain_statement, plain_statements};
+ghost use Rattle.body_check.specs.declared.ty.ValueType.TheVariants as ty;
+ghost use Rattle.body_check.specs.Matching.{IsIndex};
+ghost use Rattle.body_check.specs.Typing.{expression_of, with_parameters};
+ghost use Rattle.body_check.specs.Walk as walk;
 
-use crate::ty::{ValueType, literal_type};
+use crate::expressions::{Checker, Locals};
+use crate::ty::ValueType;
 use indexmap::IndexMap;
-use plain_data::{NoMemory, Word};
-use ruby_reader::{Assignment, Expression, Statement};
+use plain_data::{Many, NoMemory, Word};
+use ruby_reader::{Assignment, Statement};
+use sig_model::diag::Diag;
 use std::alloc::Global;
-
-/// The locals of a scope, each with the type of its value.
-pub(crate) type Locals = IndexMap<Word, ValueType>;
 
 /// The parameters of a method, each with its declared type.
 pub(crate) fn with_parameters(
@@ -34,66 +37,71 @@ pub(crate) fn with_parameters(
     Ok(locals)
 }
 
-/// The type of an expression, if its locals have one.
-fn type_of(
-    alloc: Global,
-    locals: &Locals,
-    expression: &Expression,
-) -> Result<Option<ValueType>, NoMemory>
-    ensures { IfOk result (λ ty. ty ≡ type_of locals.now.entries expression.now) }
+/// The type of one more statement, where those before it have one.
+fn type_behind(before: Option<ValueType>, given: Option<ValueType>) -> Option<ValueType>
+    ensures { result ≡ walk.type_behind before given }
 {
-    match expression {
-        Expression::Literal(literal) => Ok(Some(literal_type(alloc, literal)?)),
-        Expression::Local(name) => match locals.get(name) {
-            Some(ty) => Ok(Some(ty.copy()?)),
-            None => Ok(None),
-        },
+    match before {
+        Some(_) => given,
+        None => None,
     }
 }
 
-/// The type of what an assignment assigns, which its local gets.
-fn assign(
-    alloc: Global,
-    locals: &mut Locals,
-    assignment: &Assignment,
-) -> Result<Option<ValueType>, NoMemory>
-    ensures given { IfOk result (λ ty. ty ≡ given_by locals.old.entries (statement.Assignment assignment.now)) }
-    ensures behind { OnOk result (locals.new.entries ≡ locals_behind locals.old.entries (statement.Assignment assignment.now)) }
-{
-    let Some(ty) = type_of(alloc, locals, &assignment.value)? else {
-        return Ok(None);
-    };
-    locals.insert(assignment.name.clone()?, ty.copy()?)?;
-    Ok(Some(ty))
-}
-
-/// The type of a statement's value; the locals are those behind it.
-fn given_by(
-    alloc: Global,
-    locals: &mut Locals,
-    statement: &Statement,
-) -> Result<Option<ValueType>, NoMemory>
-    ensures given { IfOk result (λ ty. ty ≡ given_by locals.old.entries statement.now) }
-    ensures behind { OnOk result (locals.new.entries ≡ locals_behind locals.old.entries statement.now) }
-{
-    match statement {
-        Statement::Expression(expression) => type_of(alloc, locals, expression),
-        Statement::Assignment(assignment) => assign(alloc, locals, assignment),
+impl<'a> Checker<'a> {
+    /// The type of what an assignment assigns, which its local gets.
+    fn check_assignment(
+        &self,
+        locals: &mut Locals,
+        assignment: &Assignment,
+        list: &mut Many<Diag>,
+    ) -> Result<Option<ValueType>, NoMemory>
+        requires { IsIndex self.now.classes.now self.now.index.now }
+        ensures given { IfOk result (λ ty. ty ≡ walk.type_of self.now.classes.now locals.old.entries (expression_of (plain_statement (statement.Assignment assignment.now)))) }
+        ensures behind { OnOk result (locals.new.entries ≡ walk.locals_behind self.now.classes.now locals.old.entries (plain_statement (statement.Assignment assignment.now))) }
+        ensures listed { OnOk result (list.new ≡ list.old ++ walk.faults_of self.now.file self.now.classes.now locals.old.entries (expression_of (plain_statement (statement.Assignment assignment.now)))) }
+    {
+        let Some(ty) = self.check(locals, &assignment.value, list)? else {
+            return Ok(None);
+        };
+        locals.insert(assignment.name.clone()?, ty.copy()?)?;
+        Ok(Some(ty))
     }
-}
 
-/// The type of a body, if its last statement has one: `nil` where the body is empty.
-pub(crate) fn body_type(
-    alloc: Global,
-    locals: Locals,
-    body: &[Statement],
-) -> Result<Option<ValueType>, NoMemory>
-    ensures { IfOk result (λ ty. ty ≡ body_type locals.entries body.now) }
-{
-    let mut locals = locals;
-    let mut given = Some(ValueType::Nil);
-    for statement in body {
-        given = given_by(alloc, &mut locals, statement)?;
+    /// The type of a statement's value, if it has one; the locals are those behind it.
+    fn check_statement(
+        &self,
+        locals: &mut Locals,
+        statement: &Statement,
+        list: &mut Many<Diag>,
+    ) -> Result<Option<ValueType>, NoMemory>
+        requires { IsIndex self.now.classes.now self.now.index.now }
+        ensures given { IfOk result (λ ty. ty ≡ walk.type_of self.now.classes.now locals.old.entries (expression_of (plain_statement statement.now))) }
+        ensures behind { OnOk result (locals.new.entries ≡ walk.locals_behind self.now.classes.now locals.old.entries (plain_statement statement.now)) }
+        ensures listed { OnOk result (list.new ≡ list.old ++ walk.faults_of self.now.file self.now.classes.now locals.old.entries (expression_of (plain_statement statement.now))) }
+    {
+        match statement {
+            Statement::Expression(expression) => self.check(locals, expression, list),
+            Statement::Assignment(assignment) => self.check_assignment(locals, assignment, list),
+        }
     }
-    Ok(given)
+
+    /// The type of the last statement, where each has one: `nil` where there is none. Their faults are listed.
+    pub fn check_statements(
+        &self,
+        locals: Locals,
+        statements: &[Statement],
+        list: &mut Many<Diag>,
+    ) -> Result<Option<ValueType>, NoMemory>
+        requires { IsIndex self.now.classes.now self.now.index.now }
+        ensures given { IfOk result (λ given. given ≡ walk.last_type self.now.classes.now (Some ty.Nil) locals.entries (plain_statements statements.now)) }
+        ensures listed { OnOk result (list.new ≡ list.old ++ walk.faults_in self.now.file self.now.classes.now locals.entries (plain_statements statements.now)) }
+    {
+        let mut locals = locals;
+        let mut given = Some(ValueType::Nil);
+        for statement in statements {
+            let ty = self.check_statement(&mut locals, statement, list)?;
+            given = type_behind(given, ty);
+        }
+        Ok(given)
+    }
 }

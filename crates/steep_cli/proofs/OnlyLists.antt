@@ -7,10 +7,13 @@ use Rattle.sig_model.specs.declared.diag.Diag.{Diag}
 use Rattle.sig_model.specs.declared.diag.DiagId.TheVariants as id
 use Rattle.rbs_parser.specs.Profile.{IsSignature}
 use Rattle.ruby_reader.specs.declared.tree.Program.{Program}
+use Rattle.ruby_reader.specs.PlainTree.{PlainProgram}
+use Rattle.ruby_reader.specs.PlainLaws.{plain_program}
 use Rattle.ruby_reader.specs.Grammar.{IsRuby}
 use Rattle.ruby_reader.specs.Answers.{Answers}
 use Rattle.body_check.specs.Table.{classes_of}
-use Rattle.body_check.specs.Bodies.{Matches, faults}
+use Rattle.body_check.specs.Matching.{Matches}
+use Rattle.body_check.specs.Faults.{OfProgram}
 use Rattle.steep_cli.specs.Only.{IsOnly}
 use Rattle.steep_cli.specs.Lists.{limit, at_first, IsProgram, RubyLists, ruby_too_large, no_program, bodies, Lists, signature_too_large, no_signature, good_signature, AnswersProgram}
 
@@ -19,11 +22,11 @@ module _ (ds : PlainDecls) (bytes : List ℕ) where
   pub no_program_unread : Answers bytes None → AnswersProgram ds bytes None
   no_program_unread none = λ p program. none p program.written
 
-  pub no_program_unmatched : (p : Program) → Answers bytes (Some p) → (Matches (classes_of ds) p → ⊥) → AnswersProgram ds bytes None
+  pub no_program_unmatched : (p : Program) → Answers bytes (Some p) → (Matches (classes_of ds) (plain_program p) → ⊥) → AnswersProgram ds bytes None
   no_program_unmatched p read differs = λ q program. differs (subst (Matches (classes_of ds)) (read.1 q program.written) program.matches)
 
-  pub program_matched : (p : Program) (list : List Diag) → Answers bytes (Some p) → Matches (classes_of ds) p → list ≡ faults 3 (classes_of ds) p → AnswersProgram ds bytes (Some list)
-  program_matched p list read same is = (p, record { written = read.0; matches = same }, is, λ q program. read.1 q program.written)
+  pub program_matched : (p : Program) (list : List Diag) → Answers bytes (Some p) → Matches (classes_of ds) (plain_program p) → IsOnly (OfProgram 3 (classes_of ds) (plain_program p)) list → AnswersProgram ds bytes (Some list)
+  program_matched p list read same one = (plain_program p, record { written = read.0; matches = same }, one, λ q program. read.1 q program.written)
 
   pub only_large : limit < length bytes → IsOnly (RubyLists ds bytes) (at_first 3 id.StrictLimit)
   only_large large = record { holds = ruby_too_large large; only = λ y other. go y other }
@@ -31,7 +34,7 @@ module _ (ds : PlainDecls) (bytes : List ℕ) where
       go : (y : List Diag) → RubyLists ds bytes y → y ≡ at_first 3 id.StrictLimit
       go y (ruby_too_large more) = refl
       go y (no_program within none) = absurd (omega arith)
-      go y (bodies within program) = absurd (omega arith)
+      go y (bodies within program listed) = absurd (omega arith)
 
   pub only_none : length bytes ≤ limit → AnswersProgram ds bytes None → IsOnly (RubyLists ds bytes) (at_first 3 id.UnsupportedSyntax)
   only_none within none = record { holds = no_program within none; only = λ y other. go y other }
@@ -39,15 +42,15 @@ module _ (ds : PlainDecls) (bytes : List ℕ) where
       go : (y : List Diag) → RubyLists ds bytes y → y ≡ at_first 3 id.UnsupportedSyntax
       go y (ruby_too_large more) = absurd (omega arith)
       go y (no_program also other) = refl
-      go y (bodies {p = p} also program) = absurd (none p program)
+      go y (bodies {p = p} also program listed) = absurd (none p program)
 
   pub only_bodies : (list : List Diag) → length bytes ≤ limit → AnswersProgram ds bytes (Some list) → IsOnly (RubyLists ds bytes) list
-  only_bodies list within found = record { holds = subst (RubyLists ds bytes) (sym found.2) (bodies within found.1); only = λ y other. go y other }
+  only_bodies list within found = record { holds = bodies within found.1 found.2.holds; only = λ y other. go y other }
     where
       go : (y : List Diag) → RubyLists ds bytes y → y ≡ list
       go y (ruby_too_large more) = absurd (omega arith)
       go y (no_program also none) = absurd (none found.0 found.1)
-      go y (bodies {p = q} also program) = ap (faults 3 (classes_of ds)) (found.3 q program) ∙ sym found.2
+      go y (bodies {p = q} also program listed) = found.2.only y (subst (λ r. OfProgram 3 (classes_of ds) r y) (found.3 q program) listed)
 
 module _ (signature ruby : List ℕ) where
   pub only_large_signature : limit < length signature → IsOnly (Lists signature ruby) (at_first 2 id.StrictLimit)
@@ -84,13 +87,17 @@ pub ok_on : {X E : Type 0} (r : Result X E) (P Q : X → Type 0) → IfOk r P �
 ok_on (Ok x) P Q holds on = on x holds
 ok_on (Err e) P Q holds on = tt
 
-pub answers_checked : {E : Type 0} (ds : PlainDecls) (bytes : List ℕ) (p : Program) (r : Result (Option (List Diag)) E) (cs : List ClassMethods) (q : Program) → Answers bytes (Some p) → cs ≡ classes_of ds → q ≡ p
-    → IfOk r (λ found. MatchOption found (Matches cs q → ⊥) (λ list. Matches cs q × (list ≡ faults 3 cs q))) → IfOk r (AnswersProgram ds bytes)
-answers_checked {E = E} ds bytes p r cs q read cs_are q_is checked =
-    go r (subst (λ q. IfOk r (λ found. MatchOption found (Matches (classes_of ds) q → ⊥) (λ list. Matches (classes_of ds) q × (list ≡ faults 3 (classes_of ds) q)))) q_is
-    (subst (λ ds'. IfOk r (λ found. MatchOption found (Matches ds' q → ⊥) (λ list. Matches ds' q × (list ≡ faults 3 ds' q)))) cs_are checked))
+pub answers_checked : {E : Type 0} (ds : PlainDecls) (bytes : List ℕ) (p : Program) (r : Result (Option (List Diag)) E) (cs : List ClassMethods) → Answers bytes (Some p) → cs ≡ classes_of ds
+    → IfOk r (λ found. MatchOption found (Matches cs (plain_program p) → ⊥)
+    (λ list. Matches cs (plain_program p) × OfProgram 3 cs (plain_program p) list × ((other : List Diag) → OfProgram 3 cs (plain_program p) other → other ≡ list)))
+    → IfOk r (AnswersProgram ds bytes)
+answers_checked {E = E} ds bytes p r cs read cs_are checked = go r (subst (λ cs'. IfOk r (λ found. Checked cs' found)) cs_are checked)
   where
-    go : (r : Result (Option (List Diag)) E) → IfOk r (λ found. MatchOption found (Matches (classes_of ds) p → ⊥) (λ list. Matches (classes_of ds) p × (list ≡ faults 3 (classes_of ds) p))) → IfOk r (AnswersProgram ds bytes)
+    Checked : List ClassMethods → Option (List Diag) → Type 0
+    Checked cs found = MatchOption found (Matches cs (plain_program p) → ⊥)
+      (λ list. Matches cs (plain_program p) × OfProgram 3 cs (plain_program p) list × ((other : List Diag) → OfProgram 3 cs (plain_program p) other → other ≡ list))
+
+    go : (r : Result (Option (List Diag)) E) → IfOk r (λ found. Checked (classes_of ds) found) → IfOk r (AnswersProgram ds bytes)
     go (Ok None) differs = no_program_unmatched ds bytes p read differs
-    go (Ok (Some list)) same = program_matched ds bytes p list read same.0 same.1
+    go (Ok (Some list)) same = program_matched ds bytes p list read same.0 (record { holds = same.1; only = same.2 })
     go (Err e) h = tt

@@ -5,10 +5,12 @@ use Rattle.sig_model.specs.declared.diag.Diag.{Diag}
 use Rattle.sig_model.specs.declared.diag.DiagId.{DiagId}
 use Rattle.sig_model.specs.declared.diag.DiagId.TheVariants as id
 use Rattle.rbs_parser.specs.Profile.{IsSignature}
-use Rattle.ruby_reader.specs.declared.tree.Program.{Program}
+use Rattle.ruby_reader.specs.PlainTree.{PlainProgram}
 use Rattle.ruby_reader.specs.Grammar.{IsRuby}
 use Rattle.body_check.specs.Table.{classes_of}
-use Rattle.body_check.specs.Bodies.{Matches, faults}
+use Rattle.body_check.specs.Matching.{Matches}
+use Rattle.body_check.specs.Faults.{OfProgram}
+use Rattle.steep_cli.specs.Only.{IsOnly}
 
 -- the most bytes of a file
 abbrev pub limit : ℕ
@@ -19,15 +21,15 @@ abbrev pub at_first : ℕ → DiagId → List Diag
 at_first file fault = record { place = record { file = file; start = 0; end = 0 }; id = fault; args = [] } ∷ []
 
 -- the bytes are a program for these declarations: they open these classes, and define just what is declared
-pub record IsProgram (ds : PlainDecls) (p : Program) (bytes : List ℕ) : Type 0 where
+pub record IsProgram (ds : PlainDecls) (p : PlainProgram) (bytes : List ℕ) : Type 0 where
   pub written : IsRuby p bytes
   pub matches : Matches (classes_of ds) p
 
 -- what is listed of a Ruby file, where the signature file is good
 pub data RubyLists (ds : PlainDecls) (bytes : List ℕ) : List Diag → Type 0 where
   ruby_too_large : limit < length bytes → RubyLists ds bytes (at_first 3 id.StrictLimit)
-  no_program : length bytes ≤ limit → ((p : Program) → IsProgram ds p bytes → ⊥) → RubyLists ds bytes (at_first 3 id.UnsupportedSyntax)
-  bodies : {p : Program} → length bytes ≤ limit → IsProgram ds p bytes → RubyLists ds bytes (faults 3 (classes_of ds) p)
+  no_program : length bytes ≤ limit → ((p : PlainProgram) → IsProgram ds p bytes → ⊥) → RubyLists ds bytes (at_first 3 id.UnsupportedSyntax)
+  bodies : {p : PlainProgram} {list : List Diag} → length bytes ≤ limit → IsProgram ds p bytes → OfProgram 3 (classes_of ds) p list → RubyLists ds bytes list
 
 -- what is listed of both: the signature file's faults come first, and where there are some, nothing is said of the Ruby file
 pub data Lists (signature ruby : List ℕ) : List Diag → Type 0 where
@@ -37,5 +39,5 @@ pub data Lists (signature ruby : List ℕ) : List Diag → Type 0 where
 
 -- what reading a program answers: its faults, where the bytes are one program for these declarations, and nothing where they are none
 abbrev pub AnswersProgram : PlainDecls → List ℕ → Option (List Diag) → Type 0
-AnswersProgram ds bytes None = (p : Program) → IsProgram ds p bytes → ⊥
-AnswersProgram ds bytes (Some list) = (p : Program) × IsProgram ds p bytes × (list ≡ faults 3 (classes_of ds) p) × ((q : Program) → IsProgram ds q bytes → q ≡ p)
+AnswersProgram ds bytes None = (p : PlainProgram) → IsProgram ds p bytes → ⊥
+AnswersProgram ds bytes (Some list) = (p : PlainProgram) × IsProgram ds p bytes × IsOnly (OfProgram 3 (classes_of ds) p) list × ((q : PlainProgram) → IsProgram ds q bytes → q ≡ p)

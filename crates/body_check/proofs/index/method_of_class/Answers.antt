@@ -11,4 +11,4 @@ returns-in_err-place c =
 pub returns : goal.returns
 returns c =
     c.method_in.ensures
-    ∙ ap (method_in c.args.name.now) (c.as_slice.ensures ∙ ap (λ m. m.methods) c.index-classes-place.is ∙ sym (methods_found c.args.classes.now c.args.index.now c.requires c.args.class.now c.in_ok-place.place c.index-classes-place.result c.in_ok-place.ensures))
+    ∙ ap (method_in c.args.name.now) (c.as_slice.ensures ∙ sym (methods_found c.args.classes.now c.args.index.now c.requires c.args.class.now c.in_ok-place.place c.index-classes-place.result c.in_ok-place.ensures))

@@ -1,5 +1,5 @@
 use Rattle.std.proofs.Common.{◌≡◌, [], drop}
-use Rattle.body_check.specs.Values.{with_parameters}
+use Rattle.body_check.specs.Typing.{with_parameters}
 use Rattle.body_check.proofs.values.with_parameters.Given as goal
 
 abbrev pub invariant-loop-name : goal.invariant-loop-name

@@ -1,4 +1,4 @@
-use Rattle.std.proofs.Common.{◌∙◌, refl}
+use Rattle.std.proofs.Common.{◌∙◌}
 use Rattle.sig_model.specs.PlainDecl.{plain_decls}
 use Rattle.steep_cli.proofs.OnlyLists.{no_program_unread, answers_checked}
 use Rattle.steep_cli.proofs.lists.program_faults.Goals as goal
@@ -8,5 +8,5 @@ returns-in_default c = no_program_unread (plain_decls c.args.decls.now) c.args.b
 
 pub returns : goal.returns
 returns c =
-    answers_checked (plain_decls c.args.decls.now) c.args.bytes.now c.in-Some.program c.check.result c.as_slice.result.now c.in-Some.program (rw c.in-Some.is at c.in_ok-program.ensures)
-    (c.as_slice.ensures ∙ c.in_ok-classes.ensures) refl c.check.ensures
+    answers_checked (plain_decls c.args.decls.now) c.args.bytes.now c.in-Some.program c.check.result c.as_slice.result.now (rw c.in-Some.is at c.in_ok-program.ensures)
+    (c.as_slice.ensures ∙ c.in_ok-classes.ensures) c.check.ensures
