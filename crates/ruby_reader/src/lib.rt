@@ -13,6 +13,8 @@ mod parameters;
 mod progress;
 mod scopes;
 mod tall;
+#[cfg(test)]
+mod tests;
 mod text;
 mod tree;
 
