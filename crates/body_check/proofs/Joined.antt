@@ -1,5 +1,5 @@
 -- The types of expressions, one more at a time.
-use Rattle.std.proofs.Common.{◌≡◌, List, [], ◌∷◌, ◌++◌, refl, ap, append_assoc, append-nil}
+use Rattle.std.proofs.Common.{◌≡◌, List, [], ◌∷◌, refl, ap, append_assoc, append-nil}
 use Rattle.std.specs.Prelude.{Option, None, Some}
 use Rattle.body_check.specs.declared.ty.ValueType.{ValueType}
 use Rattle.body_check.specs.Walk.{with_type, joined, with_last}

@@ -5,3 +5,4 @@ pub mod Indexed
 pub mod Matched
 pub mod Joined
 pub mod Judged
+pub mod JudgedFaults

@@ -1,5 +1,5 @@
 -- When a program matches its signature, by what its parts do.
-use Rattle.std.proofs.Common.{◌≡◌, List}
+use Rattle.std.proofs.Common.{List}
 use Rattle.std.specs.Prelude.{Bool, IfOk, IsTrue, ◌↔◌, Result, Ok, Err}
 use Rattle.std.specs.List.{AllByRecursion}
 use Rattle.ruby_reader.specs.PlainTree.{PlainProgram}

@@ -1,10 +1,10 @@
 -- The faults of a program. An expression is a fault where all its parts have types and no rule gives it one. One with a part that has none is no fault: it only follows from one.
-use Rattle.std.specs.Prelude.{◌≡◌, ℕ, true, false, List, [], ◌∷◌, ◌++◌, codes, Option, None, Some}
+use Rattle.std.specs.Prelude.{◌≡◌, ℕ, false, List, [], ◌∷◌, ◌++◌, codes, None, Some}
 use Rattle.sig_model.specs.declared.diag.Diag.{Diag}
 use Rattle.sig_model.specs.declared.diag.DiagId.{DiagId}
 use Rattle.sig_model.specs.declared.diag.DiagId.TheVariants.{NoMethod, MethodBodyTypeMismatch}
 use Rattle.ruby_reader.specs.declared.tree.Literal.{Literal}
-use Rattle.ruby_reader.specs.PlainTree.{PlainExpression, PlainExpressions, literal, local, call, new, no_expressions, more_expressions, PlainStatement, assignment, expression, PlainDefinition, PlainOpening, PlainProgram}
+use Rattle.ruby_reader.specs.PlainTree.{PlainExpression, PlainExpressions, literal, local, call, new, no_expressions, more_expressions, PlainStatement, PlainDefinition, PlainOpening, PlainProgram}
 use Rattle.body_check.specs.declared.ty.ValueType.{ValueType}
 use Rattle.body_check.specs.declared.table.MethodEntry.{MethodEntry}
 use Rattle.body_check.specs.declared.table.ClassMethods.{ClassMethods}

@@ -1,5 +1,5 @@
 -- When a program defines just what its signature declares.
-use Rattle.std.specs.Prelude.{◌≡◌, ℕ, true, List, length, map, Option, Some}
+use Rattle.std.specs.Prelude.{◌≡◌, ℕ, true, List, length, map, Some}
 use Rattle.std.specs.List.{IsDistinct, AllByRecursion}
 use Rattle.std.specs.Option.{option_map}
 use Rattle.names.specs.Places.{same_name, is_among}

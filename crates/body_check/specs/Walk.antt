@@ -1,5 +1,5 @@
 -- What the checker computes on its walk over a program. `proofs/` shows that the types are those of the typing rules, and the lists those of the faults.
-use Rattle.std.specs.Prelude.{ℕ, Bool, true, false, if◌then◌else◌, List, [], ◌∷◌, ◌++◌, length, nat_lt, codes, Option, None, Some}
+use Rattle.std.specs.Prelude.{ℕ, if◌then◌else◌, List, [], ◌∷◌, ◌++◌, length, nat_lt, codes, Option, None, Some}
 use Rattle.std.specs.Option.{option_map_or}
 use Rattle.sig_model.specs.declared.diag.Diag.{Diag}
 use Rattle.sig_model.specs.declared.diag.DiagId.{DiagId}

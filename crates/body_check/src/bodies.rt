@@ -138,7 +138,7 @@ pub fn check(
 ) -> Result<Option<Many<Diag>>, NoMemory>
     ensures { IfOk result (λ found. MatchOption found (¬ (Matches classes.now (plain_program program.now)))
         (λ list. Matches classes.now (plain_program program.now) × OfProgram file classes.now (plain_program program.now) list
-            × ((other : List Diag) → OfProgram file classes.now (plain_program program.now) other → other ≡ list))) }
+        × ((other : List Diag) → OfProgram file classes.now (plain_program program.now) other → other ≡ list))) }
 {
     let Some(index) = index_of(alloc, classes)? else {
         return Ok(None);

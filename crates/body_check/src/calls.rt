@@ -61,7 +61,12 @@ fn misfit_of(
         };
         if !fits(ty, parameter) {
             let id = DiagId::ArgumentTypeMismatch;
-            let refusal = of_two(alloc, id, type_text(alloc, ty)?, type_text(alloc, parameter)?)?;
+            let refusal = of_two(
+                alloc,
+                id,
+                type_text(alloc, ty)?,
+                type_text(alloc, parameter)?,
+            )?;
             return Ok(Some(refusal));
         }
         wanted = rest;

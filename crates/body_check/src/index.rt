@@ -22,10 +22,7 @@ pub(crate) struct Index {
 }
 
 /// The names of the methods of each class, or `None` where a class has two of one name.
-fn methods_of_each(
-    alloc: Global,
-    classes: &[ClassMethods],
-) -> Result<Option<Many<Names>>, NoMemory>
+fn methods_of_each(alloc: Global, classes: &[ClassMethods]) -> Result<Option<Many<Names>>, NoMemory>
     ensures { IfOk result (λ found. MatchOption found (¬ (AllByRecursion DeclaresOnce classes.now))
         (λ methods. AllByRecursion DeclaresOnce classes.now × (methods ≡ map (λ (c : ClassMethods). method_names c.methods) classes.now))) }
 {
@@ -40,10 +37,7 @@ fn methods_of_each(
 }
 
 /// The index of some classes, or `None` where two classes, or two methods of one class, have one name.
-pub(crate) fn index_of(
-    alloc: Global,
-    classes: &[ClassMethods],
-) -> Result<Option<Index>, NoMemory>
+pub(crate) fn index_of(alloc: Global, classes: &[ClassMethods]) -> Result<Option<Index>, NoMemory>
     ensures { IfOk result (λ found. MatchOption found (¬ (IsDistinct same_name (class_names classes.now) × AllByRecursion DeclaresOnce classes.now))
         (λ index. IsDistinct same_name (class_names classes.now) × AllByRecursion DeclaresOnce classes.now × IsIndex classes.now index)) }
 {

@@ -1,7 +1,7 @@
-use Rattle.std.proofs.Common.{◌≡◌, ◌∙◌, refl, sym, subst}
+use Rattle.std.proofs.Common.{◌∙◌, refl, sym, subst}
 use Rattle.ruby_reader.specs.PlainLaws.{plain_program}
 use Rattle.body_check.specs.Faults.{OfProgram}
-use Rattle.body_check.proofs.Judged.{of_program, only_list}
+use Rattle.body_check.proofs.JudgedFaults.{of_program, only_list}
 use Rattle.body_check.proofs.bodies.check.Goals as goal
 
 pub returns : goal.returns

@@ -1,4 +1,4 @@
-use Rattle.std.proofs.Common.{◌≡◌, ◌∙◌, ap, sym}
+use Rattle.std.proofs.Common.{◌∙◌, ap, sym}
 use Rattle.std.specs.Option.{option_copied}
 use Rattle.body_check.specs.Calls.{method_in}
 use Rattle.body_check.proofs.Indexed.{methods_found, no_methods_found}

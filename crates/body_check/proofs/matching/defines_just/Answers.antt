@@ -1,4 +1,4 @@
-use Rattle.std.proofs.Common.{◌≡◌, refl, sym, subst}
+use Rattle.std.proofs.Common.{refl, sym, subst}
 use Rattle.body_check.specs.Matching.{SameNames, method_names}
 use Rattle.body_check.proofs.PlainNames.{defined_plain}
 use Rattle.body_check.proofs.matching.defines_just.Goals as goal

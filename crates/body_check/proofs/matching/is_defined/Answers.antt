@@ -1,4 +1,4 @@
-use Rattle.std.proofs.Common.{◌≡◌, [], ◌∙◌, sym, subst}
+use Rattle.std.proofs.Common.{[], ◌∙◌, sym, subst}
 use Rattle.std.specs.Prelude.{IfOk, IsTrue, ◌↔◌}
 use Rattle.ruby_reader.specs.PlainLaws.{plain_definitions}
 use Rattle.body_check.specs.Matching.{DefinesJust}
