@@ -1,5 +1,5 @@
 -- Of two texts one list alone is right.
-use Rattle.std.proofs.Common.{◌≡◌, ℕ, ◌<◌, ◌≤◌, List, length, refl, sym, ◌∙◌, ap, subst, arith}
+use Rattle.std.proofs.Common.{◌≡◌, ℕ, ◌<◌, ◌≤◌, List, length, refl, sym, subst, arith}
 use Rattle.std.specs.Prelude.{Option, None, Some, Result, Ok, Err, IfOk, MatchOption}
 use Rattle.body_check.specs.declared.table.ClassMethods.{ClassMethods}
 use Rattle.sig_model.specs.PlainDecl.{PlainDecls}
@@ -7,15 +7,13 @@ use Rattle.sig_model.specs.declared.diag.Diag.{Diag}
 use Rattle.sig_model.specs.declared.diag.DiagId.TheVariants as id
 use Rattle.rbs_parser.specs.Profile.{IsSignature}
 use Rattle.ruby_reader.specs.declared.tree.Program.{Program}
-use Rattle.ruby_reader.specs.PlainTree.{PlainProgram}
 use Rattle.ruby_reader.specs.PlainLaws.{plain_program}
-use Rattle.ruby_reader.specs.Grammar.{IsRuby}
 use Rattle.ruby_reader.specs.Answers.{Answers}
 use Rattle.body_check.specs.Table.{classes_of}
 use Rattle.body_check.specs.Matching.{Matches}
 use Rattle.body_check.specs.Faults.{OfProgram}
 use Rattle.steep_cli.specs.Only.{IsOnly}
-use Rattle.steep_cli.specs.Lists.{limit, at_first, IsProgram, RubyLists, ruby_too_large, no_program, bodies, Lists, signature_too_large, no_signature, good_signature, AnswersProgram}
+use Rattle.steep_cli.specs.Lists.{limit, at_first, RubyLists, ruby_too_large, no_program, bodies, Lists, signature_too_large, no_signature, good_signature, AnswersProgram}
 
 module _ (ds : PlainDecls) (bytes : List ℕ) where
   -- the bytes are the text of one program, and it matches or not
@@ -95,7 +93,7 @@ answers_checked {E = E} ds bytes p r cs read cs_are checked = go r (subst (λ cs
   where
     Checked : List ClassMethods → Option (List Diag) → Type 0
     Checked cs found = MatchOption found (Matches cs (plain_program p) → ⊥)
-      (λ list. Matches cs (plain_program p) × OfProgram 3 cs (plain_program p) list × ((other : List Diag) → OfProgram 3 cs (plain_program p) other → other ≡ list))
+        (λ list. Matches cs (plain_program p) × OfProgram 3 cs (plain_program p) list × ((other : List Diag) → OfProgram 3 cs (plain_program p) other → other ≡ list))
 
     go : (r : Result (Option (List Diag)) E) → IfOk r (λ found. Checked (classes_of ds) found) → IfOk r (AnswersProgram ds bytes)
     go (Ok None) differs = no_program_unmatched ds bytes p read differs

@@ -1,5 +1,5 @@
 -- Of two files one outcome alone is right, whatever was kept of the ones that are too large.
-use Rattle.std.proofs.Common.{◌≡◌, ℕ, ◌<◌, ◌≤◌, List, [], ◌∷◌, ◌++◌, length, refl, sym, ◌∙◌, ap, subst, arith}
+use Rattle.std.proofs.Common.{◌≡◌, ℕ, List, [], ◌∷◌, ◌++◌, length, refl, sym, ◌∙◌, ap, subst, arith}
 use Rattle.std.specs.Prelude.{Option, None, Some, IfSome, Ok}
 use Rattle.run_base.specs.Files.{Shelf}
 use Rattle.sig_model.specs.declared.diag.Diag.{Diag}
@@ -9,7 +9,7 @@ use Rattle.steep_cli.specs.declared.outcome.Outcome.{Outcome}
 use Rattle.steep_cli.specs.declared.load.Loaded.{Loaded}
 use Rattle.steep_cli.specs.declared.load.Loaded.TheVariants as loaded
 use Rattle.steep_cli.specs.Only.{IsOnly}
-use Rattle.steep_cli.specs.Lists.{limit, RubyLists, ruby_too_large, no_program, bodies, Lists, signature_too_large, no_signature, good_signature}
+use Rattle.steep_cli.specs.Lists.{ruby_too_large, no_program, bodies, Lists, signature_too_large, no_signature, good_signature}
 use Rattle.steep_cli.specs.Loads.{IsLoaded, Loads, text_of}
 use Rattle.steep_cli.specs.Answer.{listed, source, list_status, IsList, IsSecond}
 

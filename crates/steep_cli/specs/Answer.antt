@@ -1,5 +1,5 @@
 -- What a command line answers over files that tell their contents.
-use Rattle.std.specs.Prelude.{◌≡◌, ℕ, Bool, true, false, ◌&&◌, not, if◌then◌else◌, List, [], ◌∷◌, ◌++◌, length, codes, Option, Some, None, MatchBool, nat_eq}
+use Rattle.std.specs.Prelude.{◌≡◌, ℕ, Bool, ◌&&◌, not, List, [], ◌∷◌, ◌++◌, length, codes, Option, Some, None, MatchBool, nat_eq}
 use Rattle.std.specs.List.{starts_with, ends_with}
 use Rattle.names.specs.Places.{same_name}
 use Rattle.sig_model.specs.declared.diag.Diag.{Diag}

@@ -1,5 +1,4 @@
 use Rattle.std.proofs.Common.{List, ℕ, subst, sym, ◌∙◌}
-use Rattle.sig_model.specs.declared.diag.Diag.{Diag}
 use Rattle.steep_cli.specs.Only.{IsOnly}
 use Rattle.steep_cli.specs.Lists.{Lists}
 use Rattle.steep_cli.specs.Loads.{IsLoaded}

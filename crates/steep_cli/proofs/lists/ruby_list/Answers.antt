@@ -1,6 +1,5 @@
 use Rattle.std.proofs.Common.{List, ℕ}
 use Rattle.sig_model.specs.PlainDecl.{plain_decls}
-use Rattle.sig_model.specs.declared.diag.Diag.{Diag}
 use Rattle.steep_cli.specs.Only.{IsOnly}
 use Rattle.steep_cli.specs.Lists.{RubyLists}
 use Rattle.steep_cli.specs.Loads.{IsLoaded}

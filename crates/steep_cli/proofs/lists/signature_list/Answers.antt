@@ -1,7 +1,6 @@
 use Rattle.std.proofs.Common.{List, ℕ, subst}
 use Rattle.sig_model.specs.PlainDecl.{plain_decls}
 use Rattle.sig_model.specs.declared.decl.Decl.{Decl}
-use Rattle.sig_model.specs.declared.diag.Diag.{Diag}
 use Rattle.steep_cli.specs.Only.{IsOnly}
 use Rattle.steep_cli.specs.Lists.{RubyLists, Lists}
 use Rattle.steep_cli.specs.Loads.{IsLoaded}
