@@ -1,15 +1,12 @@
 -- What takes the reader of an expression on, or stands behind the expression, is a token of it or behind it.
 use Rattle.std.specs.Prelude.{◌==◌, if◌then◌else◌}
-use Rattle.std.proofs.Common.{◌≡◌, ℕ, Bool, true, false, refl, sym, ◌∙◌, ap, subst, List, [], ◌∷◌, ◌++◌, Option, Some, None}
+use Rattle.std.proofs.Common.{◌≡◌, ℕ, Bool, true, false, refl, subst, List, [], ◌∷◌, ◌++◌, Some, None}
 use Rattle.std.proofs.lemmas.Bool.{eqb-true}
-use Rattle.names.specs.Places.{same_name}
 use Rattle.names.proofs.Places.{same_name-true}
 use Rattle.ruby_tokens.specs.declared.token.Token.{Token}
 use Rattle.ruby_tokens.specs.declared.token.Kind.{Kind}
 use Rattle.ruby_tokens.specs.declared.token.Kind.TheVariants as kind
-use Rattle.ruby_reader.specs.declared.tree.Literal.TheVariants as literal
 use Rattle.ruby_reader.specs.declared.tree.Expression.{Expression}
-use Rattle.ruby_reader.specs.declared.tree.Expression.TheVariants as expression
 use Rattle.ruby_reader.specs.declared.progress.Turn.{Turn}
 use Rattle.ruby_reader.specs.declared.progress.Turn.TheVariants as turn
 use Rattle.ruby_reader.specs.declared.frames.Target.{Target}
@@ -21,16 +18,13 @@ use Rattle.ruby_reader.specs.declared.expression.Way.TheVariants as way
 use Rattle.ruby_reader.specs.declared.expression.ExpressionPlace.{ExpressionPlace}
 use Rattle.ruby_reader.specs.declared.expression.ExpressionPlace.TheVariants as place
 use Rattle.ruby_reader.specs.declared.expression.ExpressionReader.{ExpressionReader}
-use Rattle.ruby_reader.specs.declared.expression.Outcome.{Outcome}
-use Rattle.ruby_reader.specs.declared.expression.Outcome.TheVariants.{Reading, Ended}
-use Rattle.ruby_reader.specs.PlainTree as plain
+use Rattle.ruby_reader.specs.declared.expression.Outcome.TheVariants.{Reading}
 use Rattle.ruby_reader.specs.PlainTree.{PlainExpression, PlainExpressions, no_expressions, more_expressions}
-use Rattle.ruby_reader.specs.PlainLaws.{plain_expression, plain_expressions, append_expressions, plain-Literal, plain-Local}
-use Rattle.ruby_reader.specs.Heights.{height, limit}
-use Rattle.ruby_reader.specs.Called.{IsCalled, new_word}
-use Rattle.ruby_reader.specs.Grammar.{tok, IsSkipped, skipped_newline, skipped_note, literal_int, literal_str, literal_sym, literal_nil, Skips, skips_none, skips_more, Dots, dot_here, dot_leads, Closes, close_skip, close_here, Expressions, expression_calls, Operands, operand_literal, operand_local, operand_new, Calls, calls_none, calls_more, Arguments, arguments_none, arguments_empty, arguments_some, ArgumentList, argument_last, argument_more}
+use Rattle.ruby_reader.specs.PlainLaws.{plain_expression, plain_expressions, plain-Literal, plain-Local}
+use Rattle.ruby_reader.specs.Called.{new_word}
+use Rattle.ruby_reader.specs.Grammar.{tok, IsSkipped, skipped_newline, skipped_note, literal_int, literal_str, literal_sym, literal_nil, Skips, skips_none, skips_more, Dots, dot_here, dot_leads, close_skip, close_here, Expressions, expression_calls, Operands, operand_literal, operand_local, operand_new, Calls, calls_none, calls_more, Arguments, arguments_none, arguments_empty, arguments_some, ArgumentList, argument_last, argument_more}
 use Rattle.ruby_reader.specs.ExpressionMachine.{called, made, frame, operand_of, with_operand, before, opened, with_made, may_call, dotted, lined, ended, ends, in_frame, behind, behind_made, after_name, at_open, step, expression_next}
-use Rattle.ruby_reader.proofs.OpenCalls.{plain_called, plain_call, call_is, MayCall, MoreArguments, no_more, some_more, OpenArguments, opens_empty, opens_some, with_arguments, FramesLeft, NotedLeft, LineLeft, DotLeft, dot_left, LeadsLeft, leads_left, HereLeft, here_dot, here_leads, StopsOn, BehindLeft, goes_on, stops_on, PlaceLeft, ExpressionLeft, ExpressionGoes, Surrounds, append_one, plain_one, within_out}
+use Rattle.ruby_reader.proofs.OpenCalls.{plain_call, call_is, MayCall, MoreArguments, no_more, some_more, OpenArguments, opens_empty, opens_some, with_arguments, FramesLeft, NotedLeft, DotLeft, dot_left, LeadsLeft, leads_left, here_dot, here_leads, StopsOn, BehindLeft, goes_on, stops_on, PlaceLeft, ExpressionLeft, ExpressionGoes, Surrounds, append_one, plain_one, within_out}
 
 module _ (P : Turn → PlainExpression → List Token → Type 0) (w : Surrounds P) where
   -- the calls on a value, and what stands behind them

@@ -1,5 +1,5 @@
 -- The heights of expressions, by what they are made of.
-use Rattle.std.proofs.Common.{arith, ◌≡◌, ℕ, ◌+◌, ◌≤◌, max, refl, sym, ap, ◌∙◌, List, [], ◌∷◌, ◌++◌}
+use Rattle.std.proofs.Common.{arith, ◌≡◌, ℕ, ◌+◌, ◌≤◌, max, sym, ap, List, [], ◌∷◌, ◌++◌}
 use Rattle.ruby_reader.specs.declared.tree.Literal.{Literal}
 use Rattle.ruby_reader.specs.declared.tree.Expression as expression
 use Rattle.ruby_reader.specs.PlainLaws.{plain_expression, plain_expressions, plain-Literal, plain-Local, plain-Call, plain-New}

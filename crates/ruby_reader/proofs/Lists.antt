@@ -8,9 +8,7 @@ use Rattle.ruby_reader.specs.declared.tree.Expression.TheVariants as expression
 use Rattle.ruby_reader.specs.declared.tree.Statement.{Statement}
 use Rattle.ruby_reader.specs.declared.progress.Turn.{Turn}
 use Rattle.ruby_reader.specs.declared.progress.Turn.TheVariants as turn
-use Rattle.ruby_reader.specs.declared.frames.Target.TheVariants.{Value}
 use Rattle.ruby_reader.specs.declared.expression.ExpressionReader.{ExpressionReader}
-use Rattle.ruby_reader.specs.declared.expression.Way.TheVariants as way
 use Rattle.ruby_reader.specs.declared.expression.Outcome.{Outcome}
 use Rattle.ruby_reader.specs.declared.expression.Outcome.TheVariants.{Reading, Ended}
 use Rattle.ruby_reader.specs.declared.list.ListPlace.{ListPlace}
@@ -20,15 +18,15 @@ use Rattle.ruby_reader.specs.PlainTree as plain
 use Rattle.ruby_reader.specs.PlainTree.{PlainExpression, PlainStatement}
 use Rattle.ruby_reader.specs.PlainLaws.{plain_expression, plain_statement, plain_statements, plain-Local}
 use Rattle.ruby_reader.specs.Heights.{statement_height, limit, AreLow}
-use Rattle.ruby_reader.specs.Grammar.{tok, free, taken, break_newline, break_semicolon, literal_int, literal_str, literal_sym, literal_nil, skips_more, Skips, expression_calls, Expressions, operand_literal, operand_local, operand_new, States, state_expression, state_assignment, Ending, Ends, Lists, list_ends, list_break, list_more}
-use Rattle.ruby_reader.specs.ExpressionMachine.{operand, start, operand_of, with_operand, expression_next, expression_final}
-use Rattle.ruby_reader.specs.ListMachine.{local, statement_of, with_statement, between_statements, behind_low, with_outcome, with_final, equals_or, step, list_next, ends, list_final}
+use Rattle.ruby_reader.specs.Grammar.{tok, taken, break_newline, break_semicolon, literal_int, literal_str, literal_sym, literal_nil, skips_more, expression_calls, Expressions, operand_literal, operand_local, operand_new, States, state_expression, state_assignment, Ending, Ends, Lists, list_ends, list_break, list_more}
+use Rattle.ruby_reader.specs.ExpressionMachine.{start, operand_of, with_operand, expression_next, expression_final}
+use Rattle.ruby_reader.specs.ListMachine.{local, statement_of, with_statement, between_statements, behind_low, with_outcome, with_final, step, list_next, ends, list_final}
 use Rattle.ruby_reader.proofs.Steps.{turn_of, map_more, none_more}
-use Rattle.ruby_reader.proofs.OpenCalls.{LeadsLeft, leads_left, HereLeft, here_leads, BehindLeft, goes_on, stops_on, ExpressionLeft, ExpressionGoes}
+use Rattle.ruby_reader.proofs.OpenCalls.{leads_left, here_leads, goes_on, stops_on, ExpressionLeft, ExpressionGoes}
 use Rattle.ruby_reader.proofs.ExpressionGoes.{operand_goes, value_behind, expression_goes}
 use Rattle.ruby_reader.proofs.ExpressionReturns.{operand_left, expression_left}
-use Rattle.ruby_reader.proofs.ExpressionEnds.{ended_there, EndsAs, expression_ends, expression_finished}
-use Rattle.ruby_reader.proofs.Statements.{plain_of, plain_of_is, no_state, no_equals_list, After, after_surrounds, with_low_statement, with_statement_in}
+use Rattle.ruby_reader.proofs.ExpressionEnds.{ended_there, expression_ends, expression_finished}
+use Rattle.ruby_reader.proofs.Statements.{plain_of, plain_of_is, no_equals_list, After, after_surrounds, with_low_statement, with_statement_in}
 
 -- what is left of a statement behind its first name, `n`, and of its list
 pub data NamedLeft (ending : Ending) (ss : List Statement) (qs : List PlainStatement) (rest : List Token) (n : List ℕ) : List Token → Type 0 where

@@ -1,29 +1,25 @@
 -- A method: a token of it takes the reader on, and no other does.
-use Rattle.std.proofs.Common.{◌≡◌, ℕ, ◌≤◌, refl, sym, ◌∙◌, ap, subst, List, [], ◌∷◌, ◌++◌, Option, Some, None}
+use Rattle.std.proofs.Common.{◌≡◌, ℕ, refl, sym, ◌∙◌, ap, subst, List, [], ◌∷◌, Option, Some, None}
 use Rattle.ruby_tokens.specs.declared.token.Token.{Token}
 use Rattle.ruby_tokens.specs.declared.token.Kind.{Kind}
 use Rattle.ruby_tokens.specs.declared.token.Kind.TheVariants as kind
-use Rattle.ruby_reader.specs.declared.tree.Expression.{Expression}
 use Rattle.ruby_reader.specs.declared.tree.Statement.{Statement}
 use Rattle.ruby_reader.specs.declared.tree.Definition.{Definition}
-use Rattle.ruby_reader.specs.declared.progress.Turn.{Turn}
 use Rattle.ruby_reader.specs.declared.progress.Turn.TheVariants as turn
 use Rattle.ruby_reader.specs.declared.progress.Progress.{Progress}
 use Rattle.ruby_reader.specs.declared.progress.Progress.TheVariants.{Reading, Read}
-use Rattle.ruby_reader.specs.declared.list.ListPlace.{ListPlace}
-use Rattle.ruby_reader.specs.declared.list.ListPlace.TheVariants as place
 use Rattle.ruby_reader.specs.declared.list.ListReader.{ListReader}
 use Rattle.ruby_reader.specs.declared.parameters.ParametersReader.{ParametersReader}
 use Rattle.ruby_reader.specs.declared.method.Head.{Head}
 use Rattle.ruby_reader.specs.declared.method.MethodReader.{MethodReader}
 use Rattle.ruby_reader.specs.declared.method.MethodReader.TheVariants as method
 use Rattle.ruby_reader.specs.PlainTree.{PlainStatement, PlainDefinition}
-use Rattle.ruby_reader.specs.PlainLaws.{plain_expression, plain_statements, plain_definition}
-use Rattle.ruby_reader.specs.Heights.{statement_height, limit, AreLow}
+use Rattle.ruby_reader.specs.PlainLaws.{plain_statements, plain_definition}
+use Rattle.ruby_reader.specs.Heights.{AreLow}
 use Rattle.ruby_reader.specs.Grammar.{tok, free, taken, break_newline, break_semicolon, body, Ends, ends_body, Lists, list_ends, list_break, Parens, Defines, define_bare, define_parens}
 use Rattle.ruby_reader.specs.ListMachine as list
 use Rattle.ruby_reader.specs.ParametersMachine.{parameters_next}
-use Rattle.ruby_reader.specs.MethodMachine.{method_next, defined, in_body, with_body, with_statements, with_parameters}
+use Rattle.ruby_reader.specs.MethodMachine.{method_next, in_body, with_body, with_statements, with_parameters}
 use Rattle.ruby_reader.proofs.Steps.{Goes, Reaches}
 use Rattle.ruby_reader.proofs.Lists.{ListLeft, ListGoes, Finished, Steps, goes, stops, list_goes, list_left, list_finished, list_ended}
 use Rattle.ruby_reader.proofs.EndStops.{end_stops}

@@ -1,6 +1,6 @@
 -- What stands behind a statement: the rest of its list.
-use Rattle.std.specs.Prelude.{nat_le, if◌then◌else◌}
-use Rattle.std.proofs.Common.{arith, ◌≡◌, ℕ, ◌+◌, ◌≤◌, Bool, true, false, refl, sym, ◌∙◌, ap, subst, List, [], ◌∷◌, ◌++◌, Option, Some, None}
+use Rattle.std.specs.Prelude.{if◌then◌else◌}
+use Rattle.std.proofs.Common.{arith, ◌≡◌, ℕ, ◌≤◌, Bool, true, false, refl, sym, ◌∙◌, ap, List, [], ◌∷◌, ◌++◌, Option, Some, None}
 use Rattle.std.proofs.lemmas.Bool.{le-leb, leb-true}
 use Rattle.ruby_tokens.specs.declared.token.Token.{Token}
 use Rattle.ruby_tokens.specs.declared.token.Kind.{Kind}
@@ -10,9 +10,6 @@ use Rattle.ruby_reader.specs.declared.tree.Statement.{Statement}
 use Rattle.ruby_reader.specs.declared.progress.Turn.{Turn}
 use Rattle.ruby_reader.specs.declared.progress.Turn.TheVariants as turn
 use Rattle.ruby_reader.specs.declared.frames.Target.{Target}
-use Rattle.ruby_reader.specs.declared.frames.Target.TheVariants.{Value, Class}
-use Rattle.ruby_reader.specs.declared.tree.Literal.TheVariants as literal
-use Rattle.ruby_reader.specs.declared.tree.Expression.TheVariants as expression
 use Rattle.ruby_reader.specs.PlainTree as plain
 use Rattle.ruby_reader.specs.PlainTree.{PlainExpression, PlainStatement}
 use Rattle.ruby_reader.specs.PlainLaws.{plain_expression, plain_statement, plain_statements}
@@ -20,7 +17,7 @@ use Rattle.ruby_reader.specs.Heights.{height, statement_height, limit, AreLow}
 use Rattle.ruby_reader.specs.Grammar.{tok, free, taken, IsBreak, break_newline, literal_int, literal_str, literal_sym, literal_nil, expression_calls, operand_literal, operand_local, operand_new, States, state_expression, state_assignment, Ending, Ends, Lists, list_ends, list_break, list_more}
 use Rattle.ruby_reader.specs.Grammar as grammar
 use Rattle.ruby_reader.specs.ExpressionMachine.{operand_of}
-use Rattle.ruby_reader.specs.ListMachine.{statement_of, is_low, low_statement, with_low, with_statement}
+use Rattle.ruby_reader.specs.ListMachine.{statement_of, is_low, with_low, with_statement}
 use Rattle.ruby_reader.proofs.Steps.{turn_of}
 use Rattle.ruby_reader.proofs.OpenCalls.{Surrounds}
 

@@ -117,7 +117,7 @@ fn reads_a_whole_text(rt: HostRuntime) -> Result<(), Fail> {
     Ok(())
 }
 
-const READ: [(&str, &str); 37] = [
+const READ: [(&str, &str); 19] = [
     ("", "main\n"),
     ("\n# nothing\n;;", "main\n"),
     ("nil", "main nil\n"),
@@ -158,30 +158,6 @@ const READ: [(&str, &str); 37] = [
         "class A\ndef f\nx = 1\nend\nend\nx = 2",
         "A@0 f@8 { x=1 }\nmain x=2\n",
     ),
-    ("1.a", "main 1.a@2-3()\n"),
-    ("1.a()", "main 1.a@2-3()\n"),
-    ("1.a.b", "main 1.a@2-3().b@4-5()\n"),
-    ("1.new", "main 1.new@2-5()\n"),
-    ("1.a(2, 'b').c(:d)", "main 1.a@2-3(2,'b').c@12-13(:d)\n"),
-    ("1.a(2.b(3), 4)", "main 1.a@2-3(2.b@6-7(3),4)\n"),
-    ("x = 1; x.a(x)", "main x=1 x.a@9-10(x)\n"),
-    ("x = nil.a; x", "main x=nil.a@8-9() x\n"),
-    ("class A end\nA.new", "A@0\nmain A.new@14-17()\n"),
-    (
-        "class A end\nx = A.new(1).f",
-        "A@0\nmain x=A.new@18-21(1).f@25-26()\n",
-    ),
-    (
-        "class A\ndef f(a) a.g(A.new) end\nend",
-        "A@0 f@8 a { a.g@19-20(A.new@23-26()) }\nmain\n",
-    ),
-    ("1\n.a\n  # why\n  .b\n2", "main 1.a@3-4().b@16-17() 2\n"),
-    ("1\n# @type var x: A\n.a", "main 1.a@20-21()\n"),
-    ("1.a(\n 2, # two\n 3\n)", "main 1.a@2-3(2,3)\n"),
-    ("1.a(2\n.b)", "main 1.a@2-3(2.b@7-8())\n"),
-    ("1.a(\n\n)\n2", "main 1.a@2-3() 2\n"),
-    ("1.\n\n a", "main 1.a@5-6()\n"),
-    ("class A end; A\n.\nnew", "A@0\nmain A.new@17-20()\n"),
 ];
 
 #[test]
@@ -194,7 +170,7 @@ fn reads_small_texts(rt: HostRuntime) -> Result<(), Fail> {
     Ok(())
 }
 
-const REFUSED: [(&str, &str); 102] = [
+const REFUSED: [(&str, &str); 66] = [
     ("a missing end of a class", "class A\ndef f() 1 end\n"),
     ("a missing end of a method", "class A\ndef f() 1\nend\n"),
     ("an end too many", "class A\nend\nend\n"),
@@ -309,6 +285,55 @@ const REFUSED: [(&str, &str); 102] = [
         "class A\ndef f(a) 1 end\ndef g() a end\nend",
     ),
     ("a local of a method", "class A\ndef f() x = 1 end\nend\nx"),
+];
+
+#[test]
+fn refuses_other_texts(rt: HostRuntime) -> Result<(), Fail> {
+    for (what, text) in REFUSED {
+        assert!(rt; text.len() < 100);
+        assert!(rt; read(rt.alloc(), text.as_bytes())?.is_none(), "{what}");
+    }
+    Ok(())
+}
+
+const READ_CALLS: [(&str, &str); 18] = [
+    ("1.a", "main 1.a@2-3()\n"),
+    ("1.a()", "main 1.a@2-3()\n"),
+    ("1.a.b", "main 1.a@2-3().b@4-5()\n"),
+    ("1.new", "main 1.new@2-5()\n"),
+    ("1.a(2, 'b').c(:d)", "main 1.a@2-3(2,'b').c@12-13(:d)\n"),
+    ("1.a(2.b(3), 4)", "main 1.a@2-3(2.b@6-7(3),4)\n"),
+    ("x = 1; x.a(x)", "main x=1 x.a@9-10(x)\n"),
+    ("x = nil.a; x", "main x=nil.a@8-9() x\n"),
+    ("class A end\nA.new", "A@0\nmain A.new@14-17()\n"),
+    (
+        "class A end\nx = A.new(1).f",
+        "A@0\nmain x=A.new@18-21(1).f@25-26()\n",
+    ),
+    (
+        "class A\ndef f(a) a.g(A.new) end\nend",
+        "A@0 f@8 a { a.g@19-20(A.new@23-26()) }\nmain\n",
+    ),
+    ("1\n.a\n  # why\n  .b\n2", "main 1.a@3-4().b@16-17() 2\n"),
+    ("1\n# @type var x: A\n.a", "main 1.a@20-21()\n"),
+    ("1.a(\n 2, # two\n 3\n)", "main 1.a@2-3(2,3)\n"),
+    ("1.a(2\n.b)", "main 1.a@2-3(2.b@7-8())\n"),
+    ("1.a(\n\n)\n2", "main 1.a@2-3() 2\n"),
+    ("1.\n\n a", "main 1.a@5-6()\n"),
+    ("class A end; A\n.\nnew", "A@0\nmain A.new@17-20()\n"),
+];
+
+#[test]
+fn reads_calls(rt: HostRuntime) -> Result<(), Fail> {
+    for (text, expected) in READ_CALLS {
+        assert!(rt; text.len() < 100);
+        let program = read(rt.alloc(), text.as_bytes())?.ok_or("no text")?;
+        assert_eq!(rt; shown(rt.alloc(), &program)?.as_str(), expected);
+    }
+    Ok(())
+}
+
+const REFUSED_CALLS: [(&str, &str); 36] = [
     ("a dot and no receiver", ".a"),
     ("a dot and no name", "1."),
     ("two dots", "1..a"),
@@ -351,8 +376,8 @@ const REFUSED: [(&str, &str); 102] = [
 ];
 
 #[test]
-fn refuses_other_texts(rt: HostRuntime) -> Result<(), Fail> {
-    for (what, text) in REFUSED {
+fn refuses_other_calls(rt: HostRuntime) -> Result<(), Fail> {
+    for (what, text) in REFUSED_CALLS {
         assert!(rt; text.len() < 100);
         assert!(rt; read(rt.alloc(), text.as_bytes())?.is_none(), "{what}");
     }

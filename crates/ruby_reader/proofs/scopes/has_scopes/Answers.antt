@@ -1,4 +1,4 @@
-use Rattle.std.proofs.Common.{◌≡◌, ◌∙◌, ap, map, ◌↔◌, IsTrue}
+use Rattle.std.proofs.Common.{◌∙◌, ap, map, ◌↔◌, IsTrue}
 use Rattle.names.specs.Places.{is_among}
 use Rattle.std.proofs.lemmas.Result.{IfOk-weaker}
 use Rattle.ruby_reader.specs.PlainLaws.{plain_program}
