@@ -1,0 +1,12 @@
+class Cat
+  def initialize(n)
+    nil
+  end
+  def name
+    "x"
+  end
+  def meet(other)
+    other
+  end
+end
+Integer.new

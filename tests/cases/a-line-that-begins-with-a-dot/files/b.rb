@@ -1,0 +1,24 @@
+class Cat
+  def initialize(n)
+    nil
+  end
+  def name
+    "x"
+  end
+  def meet(other)
+    other
+  end
+end
+c = Cat.new("Tom")
+c
+  .meet(c)
+	 .meet(
+    c
+    .meet(c)
+)
+  .name
+Cat
+  .new("Ann")
+d = c # the same
+  .meet(c)
+d

@@ -1,0 +1,6 @@
+class A
+  def f; B.new end
+end
+class B
+end
+A.new.f

@@ -1,0 +1,21 @@
+class Cat
+  def initialize(n)
+    nil
+  end
+  def name
+    "x"
+  end
+  def meet(other)
+    other
+  end
+end
+c = Cat.new("Tom")
+c.
+name
+c. # one
+
+  # two
+  meet(c).
+name
+Cat.
+new("Ann")

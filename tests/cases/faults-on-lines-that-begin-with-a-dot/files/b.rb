@@ -1,0 +1,20 @@
+class Cat
+  def initialize(n)
+    nil
+  end
+  def name
+    "x"
+  end
+  def meet(other)
+    other
+  end
+end
+c = Cat.new("Tom")
+c
+  .meet(c)
+  .fly
+  .high
+c.meet(
+  c
+    .fly
+)

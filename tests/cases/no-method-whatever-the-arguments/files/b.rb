@@ -1,0 +1,6 @@
+class A
+  def f(a, b) a end
+end
+a = A.new
+a.g
+a.g(1, 2, 3)

@@ -1,0 +1,4 @@
+class A
+  def f(a, b) a end
+end
+A.new.f(1 "b")
