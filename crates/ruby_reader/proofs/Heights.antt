@@ -14,7 +14,7 @@ height-Local n = ap height (plain-Local n)
 pub height-Call : (x : expression.Expression) (n : List ℕ) (s e : ℕ) (xs : List expression.Expression) → height (plain_expression (expression.Call x n s e xs)) ≡ max (height (plain_expression x)) (tallest (plain_expressions xs)) + 1
 height-Call x n s e xs = ap height (plain-Call x n s e xs)
 
-pub height-New : (c : List ℕ) (s e : ℕ) (xs : List expression.Expression) → height (plain_expression (expression.New c s e xs)) ≡ tallest (plain_expressions xs) + 1
+pub height-New : (c : List ℕ) (s e : ℕ) (xs : List expression.Expression) → height (plain_expression (expression.New c s e xs)) ≡ max 1 (tallest (plain_expressions xs)) + 1
 height-New c s e xs = ap height (plain-New c s e xs)
 
 pub tallest_more : (xs : List expression.Expression) (x : expression.Expression) → tallest (plain_expressions (xs ++ x ∷ [])) ≡ max (tallest (plain_expressions xs)) (height (plain_expression x))

@@ -1,4 +1,4 @@
--- How high an expression is: a leaf has height 1, and a call is 1 above its highest part. Parentheses and lists add nothing.
+-- How high an expression is: a leaf has height 1, and a call is 1 above its highest part. The class of a new object is such a part. Parentheses and lists add nothing.
 use Rattle.std.specs.Prelude.{ℕ, ◌+◌, ◌≤◌, max, List}
 use Rattle.std.specs.List.{AllByRecursion}
 use Rattle.ruby_reader.specs.PlainTree.{PlainExpression, PlainExpressions, literal, local, call, new, no_expressions, more_expressions, PlainStatement, assignment, expression, PlainDefinition, PlainOpening, PlainProgram}
@@ -12,7 +12,7 @@ abbrev mutual
   height (literal l) = 1
   height (local n) = 1
   height (call receiver n s e arguments) = max (height receiver) (tallest arguments) + 1
-  height (new c s e arguments) = tallest arguments + 1
+  height (new c s e arguments) = max 1 (tallest arguments) + 1
 
   -- the highest of several expressions, or 0 where there is none
   pub tallest : PlainExpressions → ℕ

@@ -150,7 +150,7 @@ impl Tall {
         ensures { result ≡ within (Expression.New class start end arguments) }
     {
         let Row { items, levels } = arguments;
-        let levels = levels + 1;
+        let levels = levels.max(1) + 1;
         let expression = Expression::New {
             class,
             start,

@@ -1,7 +1,7 @@
 -- The words of Ruby text.
-use Rattle.std.specs.Prelude.{ℕ, Bool, false, if◌then◌else◌, List, [], ◌∷◌, codes}
-use Rattle.std.specs.Char.{is_ascii_uppercase}
+use Rattle.std.specs.Prelude.{ℕ, if◌then◌else◌, List, [], ◌∷◌, codes}
 use Rattle.names.specs.Places.{same_name, is_among}
+use Rattle.profile_words.specs.Words.{begins_upper, is_interface_name}
 use Rattle.ruby_tokens.specs.declared.token.Kind.{Kind}
 use Rattle.ruby_tokens.specs.declared.token.Kind.TheVariants as kind
 
@@ -13,11 +13,7 @@ keywords = codes "module" ∷ codes "alias" ∷ codes "if" ∷ codes "unless" �
     ∷ codes "case" ∷ codes "for" ∷ codes "until" ∷ codes "begin" ∷ codes "rescue" ∷ codes "ensure" ∷ codes "retry" ∷ codes "redo" ∷ codes "undef"
     ∷ codes "and" ∷ codes "or" ∷ codes "not" ∷ codes "BEGIN" ∷ codes "END" ∷ codes "__FILE__" ∷ codes "__LINE__" ∷ codes "__method__" ∷ codes "__END__" ∷ []
 
-abbrev pub begins_upper : List ℕ → Bool
-begins_upper [] = false
-begins_upper (c ∷ cs) = is_ascii_uppercase c
-
--- what a word is, by its letters
+-- what a word is, by its letters: the name of an interface is no name here
 abbrev pub word_kind : List ℕ → Kind
 word_kind w =
     if same_name w (codes "class") then kind.Class
@@ -25,5 +21,6 @@ word_kind w =
     else if same_name w (codes "end") then kind.End
     else if same_name w (codes "nil") then kind.Nil
     else if is_among w keywords then kind.Other
+    else if is_interface_name w then kind.Other
     else if begins_upper w then kind.Upper w
     else kind.Name w

@@ -4,7 +4,7 @@ ghost use Rattle.std.specs.Prelude.{◌≡◌, ◌+◌, ◌^◌, ◌<◌};
 ghost use Rattle.names.specs.Places.{is_among};
 ghost use Rattle.ruby_tokens.specs.Machine as machine;
 ghost use Rattle.ruby_tokens.specs.Does.{Does};
-ghost use Rattle.ruby_tokens.specs.Words.{keywords, begins_upper, word_kind};
+ghost use Rattle.ruby_tokens.specs.Words.{keywords, word_kind};
 
 use crate::appended::with_character;
 use crate::begin::behind;
@@ -13,6 +13,7 @@ use crate::mode::{Lexer, Mode};
 use crate::refused::Refused;
 use crate::token::{Kind, Token};
 use plain_data::{Many, Word};
+use profile_words::{begins_upper, is_interface_name};
 use source_text::is_name_character;
 use std::alloc::Global;
 
@@ -69,16 +70,7 @@ fn is_keyword(word: &str) -> bool
     is_listed(word, &KEYWORDS)
 }
 
-fn begins_upper(word: &str) -> bool
-    ensures { result ≡ begins_upper word.now }
-{
-    match word.as_bytes() {
-        [first, ..] => first.is_ascii_uppercase(),
-        [] => false,
-    }
-}
-
-/// What a word is, by its letters.
+/// What a word is, by its letters: the name of an interface is no name here.
 pub fn word_kind(word: Word) -> Kind
     ensures { result ≡ word_kind word }
 {
@@ -93,7 +85,9 @@ pub fn word_kind(word: Word) -> Kind
         Kind::Nil
     } else if is_keyword(text) {
         Kind::Other
-    } else if begins_upper(text) {
+    } else if is_interface_name(text.as_bytes()) {
+        Kind::Other
+    } else if begins_upper(text.as_bytes()) {
         Kind::Upper(word)
     } else {
         Kind::Name(word)
