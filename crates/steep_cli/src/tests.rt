@@ -21,11 +21,28 @@ fn check_words(alloc: Global) -> Result<Many<Word>, NoMemory> {
     Ok(words)
 }
 
+const CATS: &[u8] =
+    b"class Cat\n  def initialize: (String) -> void\n  def name: () -> String\n  def meet: (Cat) -> Cat\nend\n";
+
+const CALLS: &[u8] =
+    b"class Cat\n  def initialize(n)\n    nil\n  end\n  def name\n    1\n  end\n  def meet(other)\n    other\n  end\nend\nc = Cat.new(\"Tom\")\nc.meet(1)\nc.fly\nc.meet\n";
+
+const CALLS_LIST: &[u8] =
+    b"b.rb:5:3: [Ruby::MethodBodyTypeMismatch] ::Integer does not fit ::String\nb.rb:13:3: [Ruby::ArgumentTypeMismatch] ::Integer does not fit ::Cat\nb.rb:14:3: [Ruby::NoMethod] type ::Cat has no method fly\nb.rb:15:3: [Ruby::InsufficientPositionalArguments] wrong number of arguments for meet\nchecked 2 files: 4 diagnostics\n";
+
 fn two_files(alloc: Global, ruby: &[u8]) -> Result<Many<NamedBytes>, NoMemory> {
+    files_of(alloc, SIGNATURE, ruby)
+}
+
+fn files_of(
+    alloc: Global,
+    signature: &[u8],
+    ruby: &[u8],
+) -> Result<Many<NamedBytes>, NoMemory> {
     let mut files = Many::new(alloc);
     files.push(NamedBytes {
         name: Word::of(alloc, "a.rbs")?,
-        bytes: Many::from_slice(alloc, SIGNATURE)?,
+        bytes: Many::from_slice(alloc, signature)?,
     })?;
     files.push(NamedBytes {
         name: Word::of(alloc, "b.rb")?,
@@ -81,6 +98,37 @@ fn a_failing_write_leaves_a_front(rt: HostRuntime) -> Result<(), Fail> {
     )?;
     assert_eq!(rt; status, Status::WriteFault);
     assert_eq!(rt; out.bytes(), b"b.rb:2:".as_slice());
+    Ok(())
+}
+
+#[test]
+fn calls_that_are_refused_are_listed(rt: HostRuntime) -> Result<(), Fail> {
+    let alloc = rt.alloc();
+    let mut files = MemFiles::new(files_of(alloc, CATS, CALLS)?, Many::new(alloc));
+    let mut out = MemSink::new(alloc, 1000, Many::new(alloc), 1000)?;
+    let mut err = MemSink::new(alloc, 1000, Many::new(alloc), 1000)?;
+    let words = check_words(alloc)?;
+    let status = tool(
+        &rt, alloc, &words, &mut files, &mut out, &mut err, &OpenGate,
+    )?;
+    assert_eq!(rt; status, Status::Listed);
+    assert_eq!(rt; out.bytes(), CALLS_LIST);
+    assert_eq!(rt; err.bytes(), b"".as_slice());
+    Ok(())
+}
+
+#[test]
+fn a_failing_write_leaves_a_front_of_several_lines(rt: HostRuntime) -> Result<(), Fail> {
+    let alloc = rt.alloc();
+    let mut files = MemFiles::new(files_of(alloc, CATS, CALLS)?, Many::new(alloc));
+    let mut out = MemSink::new(alloc, 1000, Many::from_slice(alloc, &[2])?, 7)?;
+    let mut err = MemSink::new(alloc, 1000, Many::new(alloc), 1000)?;
+    let words = check_words(alloc)?;
+    let status = tool(
+        &rt, alloc, &words, &mut files, &mut out, &mut err, &OpenGate,
+    )?;
+    assert_eq!(rt; status, Status::WriteFault);
+    assert_eq!(rt; out.bytes(), b"b.rb:5:".as_slice());
     Ok(())
 }
 
