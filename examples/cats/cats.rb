@@ -15,7 +15,7 @@ class Cat
 
   def meet(other)
     guest = other
-    guest
+    guest.meet(Cat.new(guest.name))
   end
 end
 
@@ -27,5 +27,7 @@ class Box
   end
 end
 
-name = "Tom"
-name
+tom = Cat.new("Tom")
+tom.meet(tom.name) # a name, where a cat is wanted
+  .purr            # not listed: it only follows from the line above
+Box.new.occupant(tom).bark
