@@ -34,11 +34,7 @@ fn two_files(alloc: Global, ruby: &[u8]) -> Result<Many<NamedBytes>, NoMemory> {
     files_of(alloc, SIGNATURE, ruby)
 }
 
-fn files_of(
-    alloc: Global,
-    signature: &[u8],
-    ruby: &[u8],
-) -> Result<Many<NamedBytes>, NoMemory> {
+fn files_of(alloc: Global, signature: &[u8], ruby: &[u8]) -> Result<Many<NamedBytes>, NoMemory> {
     let mut files = Many::new(alloc);
     files.push(NamedBytes {
         name: Word::of(alloc, "a.rbs")?,
