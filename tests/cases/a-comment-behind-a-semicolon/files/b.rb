@@ -1,0 +1,6 @@
+class A
+  def f
+    1; # one
+    2 # two
+  end
+end

@@ -1,0 +1,1 @@
+class A; def f() 1 end end

@@ -1,0 +1,5 @@
+class A
+  def f
+    0x1
+  end
+end

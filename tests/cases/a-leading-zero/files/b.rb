@@ -1,0 +1,5 @@
+class A
+  def f
+    01
+  end
+end

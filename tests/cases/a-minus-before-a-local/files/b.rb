@@ -1,0 +1,6 @@
+class A
+  def f
+    x = 1
+    -x
+  end
+end

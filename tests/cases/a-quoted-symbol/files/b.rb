@@ -1,0 +1,5 @@
+class A
+  def f
+    :"a"
+  end
+end

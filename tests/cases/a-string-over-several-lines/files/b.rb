@@ -1,0 +1,7 @@
+class A
+  def f
+    "a
+    b
+    end"
+  end
+end

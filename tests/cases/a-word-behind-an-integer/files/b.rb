@@ -1,0 +1,4 @@
+class A
+  def f
+    1end
+end

@@ -1,0 +1,5 @@
+class A
+  def f
+    "\0"
+  end
+end

@@ -1,0 +1,5 @@
+class A
+  def f
+    1__0
+  end
+end

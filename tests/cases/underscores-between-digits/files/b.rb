@@ -1,0 +1,5 @@
+class A
+  def f
+    1_000_000
+  end
+end
