@@ -220,3 +220,7 @@ module _ (classes : List ClassMethods) where
           → last_type classes o (locals_behind classes locals s) ss ≡ Some t → GivesLast classes locals before (s ∷ ss) t
       by_type None none more is = absurd (none_some (sym (none_last (locals_behind classes locals s) ss) ∙ is))
       by_type (Some given) has more is = last_more (type_had classes locals (expression_of s) given has) (leaves classes locals s) (more given is)
+
+-- an expression has one type
+pub one_type : (classes : List ClassMethods) (locals : Locals) (x : PlainExpression) (t u : ValueType) → HasType classes locals x t → HasType classes locals x u → t ≡ u
+one_type classes locals x t u h g = some_is (sym (has_type classes locals h) ∙ has_type classes locals g)

@@ -6,6 +6,9 @@ ghost use Rattle.sig_model.specs.declared.diag.Diag.{Diag};
 ghost use Rattle.ruby_reader.specs.PlainLaws.{plain_definition, plain_definitions, plain_openings, plain_program};
 ghost use Rattle.body_check.specs.Calls.{methods_in};
 ghost use Rattle.body_check.specs.Matching.{method_names, Matches, IsIndex};
+ghost use Rattle.ruby_reader.specs.PlainTree.{PlainExpression};
+ghost use Rattle.body_check.specs.declared.ty.ValueType.{ValueType};
+ghost use Rattle.body_check.specs.Typing.{HasType, Locals};
 ghost use Rattle.body_check.specs.Faults.{OfProgram};
 ghost use Rattle.body_check.specs.Walk as walk;
 
@@ -130,15 +133,18 @@ impl<'a> Checker<'a> {
 }
 
 /// The faults of a program in its order, or `None` where it doesn't define just what the classes declare.
+/// No expression has two types.
+#[tactic(auto, using(crate::proofs::Judged::one_type))]
 pub fn check(
     alloc: Global,
     file: u32,
     classes: &[ClassMethods],
     program: &Program,
 ) -> Result<Option<Many<Diag>>, NoMemory>
-    ensures { IfOk result (λ found. MatchOption found (¬ (Matches classes.now (plain_program program.now)))
+    ensures answer { IfOk result (λ found. MatchOption found (¬ (Matches classes.now (plain_program program.now)))
         (λ list. Matches classes.now (plain_program program.now) × OfProgram file classes.now (plain_program program.now) list
         × ((other : List Diag) → OfProgram file classes.now (plain_program program.now) other → other ≡ list))) }
+    ensures once { (locals : Locals) (x : PlainExpression) (t u : ValueType) → HasType classes.now locals x t → HasType classes.now locals x u → t ≡ u }
 {
     let Some(index) = index_of(alloc, classes)? else {
         return Ok(None);

@@ -235,6 +235,12 @@ pub read_written : (ts : List Token) (o : Option Program) → reads start ts ≡
 read_written ts None e = λ p f low. let w = text_read ts p f low in none_some (sym e ∙ w.1)
 read_written ts (Some z) e = let t = read_text ts z e in (t.0, t.1, λ q f low. let w = text_read ts q f low in w.2 ∙ ap plain_program (program_same (sym e ∙ w.1)))
 
+-- tokens write one program
+pub written_once : (ts : List Token) (p q : PlainProgram) → IsWritten p ts → IsLow p → IsWritten q ts → IsLow q → p ≡ q
+written_once ts p q f low g also =
+    let w = text_read ts p f low in let v = text_read ts q g also in
+    w.2 ∙ ap plain_program (program_same (sym v.1 ∙ w.1)) ∙ sym v.2
+
 -- The answer from a place in the tokens on.
 module _ (ts : List Token) (i : ℕ) (r : FileReader) where
   split_here : (c : Token) → i < length ts → c ≡ get_or ts i c → drop i ts ≡ c ∷ drop (i + 1) ts

@@ -5,6 +5,7 @@ use Rattle.std.proofs.lemmas.Str.{encodes-chars}
 use Rattle.source_text.specs.Characters.{width}
 use Rattle.ruby_tokens.specs.declared.token.Token.{Token}
 use Rattle.ruby_tokens.specs.Reads.{reads, first}
+use Rattle.ruby_tokens.specs.Tokens.{IsDivided}
 use Rattle.ruby_tokens.specs.Answers.{Answers}
 use Rattle.ruby_tokens.proofs.Complete.{divides_read}
 use Rattle.ruby_tokens.proofs.Sound.{reads_divides}
@@ -23,3 +24,7 @@ module _ (bytes cs : List ℕ) (u : IsUtf8 bytes) (e : cs ≡ chars bytes) where
 
   pub not_found : reads first 0 cs ≡ None → Answers bytes None
   not_found f = λ ts d. let same : Some ts ≡ None = sym (divides_read [] d.divided) ∙ ap (reads first 0) (sym e) ∙ f in cc
+
+-- a text divides into tokens in one way
+pub divided_once : (bytes : List ℕ) (ts us : List Token) → IsDivided ts bytes → IsDivided us bytes → ts ≡ us
+divided_once bytes ts us d e = let same : Some ts ≡ Some us = sym (divides_read [] d.divided) ∙ divides_read [] e.divided in cc

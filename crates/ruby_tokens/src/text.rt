@@ -1,9 +1,11 @@
 //! The tokens of a text.
 
-ghost use Rattle.std.specs.Prelude.{◌≡◌, ◌+◌, ◌^◌, ◌<◌, length, IfOk};
+ghost use Rattle.std.specs.Prelude.{◌≡◌, ◌+◌, ◌^◌, ◌<◌, List, length, IfOk};
 ghost use Rattle.source_text.specs.Characters.{width};
 ghost use Rattle.ruby_tokens.specs.Reads.{reads, first};
 ghost use Rattle.ruby_tokens.specs.Does.{Ends};
+ghost use Rattle.ruby_tokens.specs.declared.token.Token.{Token};
+ghost use Rattle.ruby_tokens.specs.Tokens.{IsDivided};
 ghost use Rattle.ruby_tokens.specs.Answers.{Answers};
 
 use crate::before::at_start;
@@ -33,10 +35,12 @@ fn tokens_of(alloc: Global, characters: &[char]) -> Result<Many<Token>, Refused>
 }
 
 /// The tokens of a Ruby text, or `None` where it has none: the bytes are no UTF-8, or hold what begins
-/// no token of the profile.
+/// no token of the profile. No text divides into tokens in two ways.
+#[tactic(auto, using(crate::proofs::Exact::divided_once))]
 pub fn tokens(alloc: Global, bytes: &[u8]) -> Result<Option<Many<Token>>, NoMemory>
     requires { length bytes.now < 2 ^ 32 }
-    ensures { IfOk result (λ found. Answers bytes.now found) }
+    ensures answer { IfOk result (λ found. Answers bytes.now found) }
+    ensures once { (ts us : List Token) → IsDivided ts bytes.now → IsDivided us bytes.now → ts ≡ us }
 {
     let Some(characters) = characters(alloc, bytes)? else {
         return Ok(None);

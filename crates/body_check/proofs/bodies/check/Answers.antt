@@ -4,8 +4,8 @@ use Rattle.body_check.specs.Faults.{OfProgram}
 use Rattle.body_check.proofs.JudgedFaults.{of_program, only_list}
 use Rattle.body_check.proofs.bodies.check.Goals as goal
 
-pub returns : goal.returns
-returns c =
+pub returns-clause-answer : goal.returns-clause-answer
+returns-clause-answer c =
     let p = plain_program c.args.program.now in
     let same = rw c.if-not-branch.false at c.in_ok-matches.ensures in
     let m = same.0 refl in
