@@ -1,4 +1,6 @@
+use crate::open::keeps_open;
 use crate::{Definition, Expression, Literal, Program, Statement, read};
+use ruby_tokens::{Kind, Token};
 use std::alloc::Global;
 use std::test::Fail;
 
@@ -424,5 +426,26 @@ fn reads_statements_of_at_most_200_levels(rt: HostRuntime) -> Result<(), Fail> {
     assert!(rt; !is_read(alloc, chain(alloc, "x = nil", 199)?.as_str())?);
     assert!(rt; is_read(alloc, nest(alloc, 199)?.as_str())?);
     assert!(rt; !is_read(alloc, nest(alloc, 200)?.as_str())?);
+    Ok(())
+}
+
+/// So many parentheses that open, one behind the other.
+fn opened(alloc: Global, count: u32) -> Result<Vec<Token>, Fail> {
+    let mut tokens = Vec::new(alloc);
+    for start in 0..count {
+        tokens.push(Token {
+            kind: Kind::Open,
+            start,
+            end: start + 1,
+        })?;
+    }
+    Ok(tokens)
+}
+
+#[test]
+fn at_most_400_are_open(rt: HostRuntime) -> Result<(), Fail> {
+    let alloc = rt.alloc();
+    assert!(rt; keeps_open(&opened(alloc, 400)?));
+    assert!(rt; !keeps_open(&opened(alloc, 401)?));
     Ok(())
 }

@@ -83,17 +83,42 @@ fn each_failing_read_is_answered(rt: HostRuntime) -> Result<(), Fail> {
 }
 
 #[test]
-fn a_failing_write_leaves_a_front(rt: HostRuntime) -> Result<(), Fail> {
+fn each_failing_write_leaves_a_front(rt: HostRuntime) -> Result<(), Fail> {
     let alloc = rt.alloc();
-    let mut files = MemFiles::new(two_files(alloc, MISFIT)?, Many::new(alloc));
-    let mut out = MemSink::new(alloc, 1000, Many::from_slice(alloc, &[2])?, 7)?;
-    let mut err = MemSink::new(alloc, 1000, Many::new(alloc), 1000)?;
     let words = check_words(alloc)?;
-    let status = tool(
-        &rt, alloc, &words, &mut files, &mut out, &mut err, &OpenGate,
-    )?;
-    assert_eq!(rt; status, Status::WriteFault);
-    assert_eq!(rt; out.bytes(), b"b.rb:2:".as_slice());
+    for call in 1..16u64 {
+        let mut files = MemFiles::new(two_files(alloc, MISFIT)?, Many::new(alloc));
+        let fails = Many::from_slice(alloc, &[call])?;
+        let mut out = MemSink::new(alloc, 1000, fails, 7)?;
+        let mut err = MemSink::new(alloc, 1000, Many::new(alloc), 1000)?;
+        let status = tool(
+            &rt, alloc, &words, &mut files, &mut out, &mut err, &OpenGate,
+        )?;
+        let written = (call as usize - 1) * 7;
+        assert_eq!(rt; status, Status::WriteFault);
+        assert_eq!(rt; Some(out.bytes()), LIST.get(..written));
+        assert_eq!(rt; err.bytes(), b"".as_slice());
+    }
+    Ok(())
+}
+
+#[test]
+fn each_failing_write_of_an_error_leaves_a_front(rt: HostRuntime) -> Result<(), Fail> {
+    let alloc = rt.alloc();
+    let words = Many::new(alloc);
+    for call in 1..4u64 {
+        let mut files = MemFiles::new(Many::new(alloc), Many::new(alloc));
+        let fails = Many::from_slice(alloc, &[call])?;
+        let mut out = MemSink::new(alloc, 1000, Many::new(alloc), 1000)?;
+        let mut err = MemSink::new(alloc, 1000, fails, 7)?;
+        let status = tool(
+            &rt, alloc, &words, &mut files, &mut out, &mut err, &OpenGate,
+        )?;
+        let written = (call as usize - 1) * 7;
+        assert_eq!(rt; status, Status::WriteFault);
+        assert_eq!(rt; out.bytes(), b"".as_slice());
+        assert_eq!(rt; Some(err.bytes()), b"usage: command\n".get(..written));
+    }
     Ok(())
 }
 
