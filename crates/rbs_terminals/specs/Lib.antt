@@ -1,0 +1,5 @@
+pub mod Keywords
+pub mod Marks
+pub mod Values
+pub mod Kinds
+pub mod Terminals
