@@ -5,6 +5,7 @@ use Rattle.std.specs.Prelude.{◌⊎◌, IsUtf8, encode_utf8, nat_lt}
 use Rattle.std.specs.Char.{IsScalar, is_ascii_digit, is_ascii_uppercase}
 use Rattle.std.specs.Str.{IsValidUpTo}
 use Rattle.std.proofs.Math.Seq.{take-add, take-append_seam, take-length}
+use Rattle.std.proofs.lemmas.List.{append-nil}
 use Rattle.std.proofs.lemmas.Str.{IsUtf8-append, IsUtf8-encode, IsUtf8-nil}
 use Rattle.rbs_lexer.specs.declared.token.TokenKind.{TokenKind}
 use Rattle.rbs_lexer.specs.declared.token.TokenKind.TheVariants as kind
@@ -16,8 +17,8 @@ use Rattle.rbs_lexer.specs.declared.refused.LexRefused.TheVariants as refused
 use Rattle.rbs_lexer.specs.Integers.{IsNumber}
 use Rattle.rbs_lexer.specs.Kinds.{IsToken, marks}
 use Rattle.rbs_lexer.specs.Longest.{BeginsNone, BeginsWith}
-use Rattle.rbs_lexer.specs.Division.{is_gap, span, whole, stray, past, Divides, at_end, at_gap, at_token, at_stray, at_past}
-use Rattle.rbs_lexer.specs.Standing.{RefusesBroken}
+use Rattle.rbs_lexer.specs.Division.{is_gap, span, End, whole, stray, past, Divides, at_end, at_gap, at_token, at_stray, at_past}
+use Rattle.rbs_lexer.specs.Standing.{stop_of, RefusesBroken}
 use Rattle.rbs_lexer.proofs.Bytes.{ascii}
 use Rattle.rbs_lexer.proofs.Listed.{Each, among_each}
 use Rattle.rbs_lexer.proofs.FirstBytes.{empty_token}
@@ -158,15 +159,17 @@ module _ (file : ℕ) (bytes : List ℕ) where
   utf8_more at n k rest h e u =
       subst IsUtf8 (sym (take-add at n bytes)) (IsUtf8-append (take at bytes) (take n (drop at bytes)) u (subst (λ x. IsUtf8 (take n x)) e (utf8_token k (take n rest) h.token)))
 
-  utf8_stray : {at p : ℕ} {ts : List SigToken} {rest : List ℕ} → Divides file at ts (stray p) rest → rest ≡ drop at bytes → IsUtf8 (take at bytes) → IsUtf8 (take p bytes)
-  utf8_stray (at_gap {at = at} {b = b} {bytes = rest} g d) e u = utf8_stray d (behind file bytes at b rest e) (utf8_gap at b rest g e u)
-  utf8_stray {rest = rest} (at_token {at = at} {n = n} {k = k} h f d) e u = utf8_stray d (ap (drop n) e ∙ drop-drop n at bytes) (utf8_more at n k rest h e u)
-  utf8_stray (at_stray g h) e u = u
+  utf8_from : {at : ℕ} {ts : List SigToken} {end : End} {rest : List ℕ} → Divides file at ts end rest → rest ≡ drop at bytes → IsUtf8 (take at bytes) → IsUtf8 (take (stop_of bytes end) bytes)
+  utf8_from {at = at} at_end e u =
+      let all : take at bytes ≡ bytes = sym (append-nil (take at bytes)) ∙ ap (λ rest. take at bytes ++ rest) e ∙ take-append-drop at bytes in
+      subst IsUtf8 (all ∙ sym (take-length bytes)) u
+  utf8_from (at_gap {at = at} {b = b} {bytes = rest} g d) e u = utf8_from d (behind file bytes at b rest e) (utf8_gap at b rest g e u)
+  utf8_from {rest = rest} (at_token {at = at} {n = n} {k = k} h f d) e u = utf8_from d (ap (drop n) e ∙ drop-drop n at bytes) (utf8_more at n k rest h e u)
+  utf8_from (at_stray g h) e u = u
+  utf8_from (at_past h f) e u = u
 
-  utf8_past : {at p : ℕ} {ts : List SigToken} {rest : List ℕ} → Divides file at ts (past p) rest → rest ≡ drop at bytes → IsUtf8 (take at bytes) → IsUtf8 (take p bytes)
-  utf8_past (at_gap {at = at} {b = b} {bytes = rest} g d) e u = utf8_past d (behind file bytes at b rest e) (utf8_gap at b rest g e u)
-  utf8_past {rest = rest} (at_token {at = at} {n = n} {k = k} h f d) e u = utf8_past d (ap (drop n) e ∙ drop-drop n at bytes) (utf8_more at n k rest h e u)
-  utf8_past (at_past h f) e u = u
+  pub utf8_up_to : (ts : List SigToken) (end : End) → Divides file 0 ts end bytes → IsUtf8 (take (stop_of bytes end) bytes)
+  utf8_up_to ts end d = utf8_from d refl IsUtf8-nil
 
   pub broken_ok : (ts : List SigToken) → Divides file 0 ts whole bytes → RefusesBroken bytes (Ok ts)
   broken_ok ts d n v = (broken_none bytes n v, not_utf8 bytes n v (divided_utf8 d))
@@ -175,7 +178,7 @@ module _ (file : ℕ) (bytes : List ℕ) where
   start_of place at n e l = subst (λ (p : Place). p.start ≤ n) (sym e) l
 
   pub broken_stray : (place : Place) (ts : List SigToken) (at : ℕ) → place ≡ span file at at → Divides file 0 ts (stray at) bytes → RefusesBroken bytes (Err (refused.Fault place))
-  broken_stray place ts at e d n v = (broken_none bytes n v, start_of place at n e (up_to bytes n v at (utf8_stray d refl IsUtf8-nil)))
+  broken_stray place ts at e d n v = (broken_none bytes n v, start_of place at n e (up_to bytes n v at (utf8_up_to ts (stray at) d)))
 
   pub broken_past : (place : Place) (ts : List SigToken) (at : ℕ) → place ≡ span file at at → Divides file 0 ts (past at) bytes → RefusesBroken bytes (Err (refused.Limit place))
-  broken_past place ts at e d n v = (broken_none bytes n v, start_of place at n e (up_to bytes n v at (utf8_past d refl IsUtf8-nil)))
+  broken_past place ts at e d n v = (broken_none bytes n v, start_of place at n e (up_to bytes n v at (utf8_up_to ts (past at) d)))

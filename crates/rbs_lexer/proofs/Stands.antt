@@ -1,5 +1,6 @@
 -- Where the tokens of a division stand.
 use Rattle.std.proofs.Common.{ℕ, zero, suc, ◌≡◌, ◌+◌, ◌-◌, ◌<◌, ◌≤◌, true, refl, sym, ◌∙◌, ap, subst, List, [], ◌∷◌, length, take, drop, arith, drop-drop, length-drop}
+use Rattle.std.proofs.Math.Seq.{take-length}
 use Rattle.std.specs.Prelude.{slice_range}
 use Rattle.rbs_lexer.specs.declared.token.TokenKind.{TokenKind}
 use Rattle.rbs_lexer.specs.declared.token.TokenKind.TheVariants as kind
@@ -9,8 +10,8 @@ use Rattle.rbs_lexer.specs.declared.refused.LexRefused.TheVariants as refused
 use Rattle.rbs_lexer.specs.Integers.{Fits64}
 use Rattle.rbs_lexer.specs.Kinds.{IsToken}
 use Rattle.rbs_lexer.specs.Longest.{BeginsNone, BeginsWith}
-use Rattle.rbs_lexer.specs.Division.{is_gap, span, token_of, whole, stray, past, Divides, at_end, at_gap, at_token, at_stray, at_past}
-use Rattle.rbs_lexer.specs.Standing.{AreGaps, StandsBehind, Stand, StandsRefused}
+use Rattle.rbs_lexer.specs.Division.{is_gap, span, token_of, End, whole, stray, past, Divides, at_end, at_gap, at_token, at_stray, at_past}
+use Rattle.rbs_lexer.specs.Standing.{AreGaps, StandsBehind, Stand, stop_of, StandUpTo, StopsAt, StandsRefused}
 use Rattle.rbs_lexer.proofs.FirstBytes.{empty_token}
 
 module _ (file : ℕ) (bytes : List ℕ) where
@@ -23,21 +24,20 @@ module _ (file : ℕ) (bytes : List ℕ) where
       let long : m - at ≡ suc (m - (at + 1)) = omega arith in
       ap (λ n. take n (drop at bytes)) long ∙ ap (take (suc (m - (at + 1)))) (sym e) ∙ ap (λ rest. b ∷ take (m - (at + 1)) rest) (behind at b rest e)
 
-  stand_gap : (at b : ℕ) (rest : List ℕ) (ts : List SigToken) → is_gap b ≡ true → b ∷ rest ≡ drop at bytes → Stand file bytes (at + 1) ts → Stand file bytes at ts
-  stand_gap at b rest [] g e s = subst AreGaps e (g, subst AreGaps (sym (behind at b rest e)) s)
-  stand_gap at b rest (t ∷ ts) g e s =
-      let first = s.0 in (
-        record {
-          its_file = first.its_file;
-          after = omega (arith, first.after);
-          some = first.some;
-          within = first.within;
-          gaps = subst AreGaps (sym (slice_more at t.place.start b rest e first.after)) (g, first.gaps);
-          text = first.text;
-          longest = first.longest;
-        },
-        s.1,
-      )
+  behind_gap : (at b : ℕ) (rest : List ℕ) (t : SigToken) → is_gap b ≡ true → b ∷ rest ≡ drop at bytes → StandsBehind file bytes (at + 1) t → StandsBehind file bytes at t
+  behind_gap at b rest t g e first = record {
+    its_file = first.its_file;
+    after = omega (arith, first.after);
+    some = first.some;
+    within = first.within;
+    gaps = subst AreGaps (sym (slice_more at t.place.start b rest e first.after)) (g, first.gaps);
+    text = first.text;
+    longest = first.longest;
+  }
+
+  stand_gap : (to at b : ℕ) (rest : List ℕ) (ts : List SigToken) → is_gap b ≡ true → b ∷ rest ≡ drop at bytes → StandUpTo file bytes to (at + 1) ts → StandUpTo file bytes to at ts
+  stand_gap to at b rest [] g e s = (omega (arith, s.0), subst AreGaps (sym (slice_more at to b rest e s.0)) (g, s.1))
+  stand_gap to at b rest (t ∷ ts) g e s = (behind_gap at b rest t g e s.0, s.1)
 
   size_is : (at n : ℕ) → (at + n) - at ≡ n
   size_is at n = omega arith
@@ -60,29 +60,42 @@ module _ (file : ℕ) (bytes : List ℕ) where
     longest = λ j w rest p e. omega (arith, h.longest j w rest p e);
   }
 
-  stand_from : {at : ℕ} {ts : List SigToken} {rest : List ℕ} → Divides file at ts whole rest → rest ≡ drop at bytes → Stand file bytes at ts
-  stand_from at_end e = subst AreGaps e tt
-  stand_from (at_gap {at = at} {b = b} {ts = ts} {bytes = rest} g d) e = stand_gap at b rest ts g e (stand_from d (behind at b rest e))
-  stand_from {rest = rest} (at_token {at = at} {n = n} {k = k} h f d) e =
-      (stand_token at n k (subst (BeginsWith k n) e h), stand_from d (ap (drop n) e ∙ drop-drop n at bytes))
+  to_end : (at : ℕ) → slice_range bytes at (length bytes) ≡ drop at bytes
+  to_end at = ap (λ n. take n (drop at bytes)) (sym (length-drop at bytes)) ∙ take-length (drop at bytes)
+
+  stand_from : {at : ℕ} {ts : List SigToken} {end : End} {rest : List ℕ} → Divides file at ts end rest → rest ≡ drop at bytes → at ≤ length bytes
+      → StandUpTo file bytes (stop_of bytes end) at ts
+  stand_from {at = at} at_end e l = (l, subst AreGaps (e ∙ sym (to_end at)) tt)
+  stand_from {end = end} (at_gap {at = at} {b = b} {ts = ts} {bytes = rest} g d) e l =
+      stand_gap (stop_of bytes end) at b rest ts g e (stand_from d (behind at b rest e) (omega (arith, ap length e, length-drop at bytes)))
+  stand_from {rest = rest} (at_token {at = at} {n = n} {k = k} h f d) e l =
+      let begins = subst (BeginsWith k n) e h in
+      (stand_token at n k begins, stand_from d (ap (drop n) e ∙ drop-drop n at bytes) (omega (arith, l, begins.within, length-drop at bytes)))
+  stand_from (at_stray {at = at} g h) e l = (omega arith, nothing at)
+  stand_from (at_past {at = at} h f) e l = (omega arith, nothing at)
+
+  pub stand_up_to : (ts : List SigToken) (end : End) → Divides file 0 ts end bytes → StandUpTo file bytes (stop_of bytes end) 0 ts
+  stand_up_to ts end d = stand_from d refl (omega arith)
+
+  to_last : (at : ℕ) (ts : List SigToken) → StandUpTo file bytes (length bytes) at ts → Stand file bytes at ts
+  to_last at [] s = subst AreGaps (to_end at) s.1
+  to_last at (t ∷ ts) s = (s.0, to_last t.place.end ts s.1)
 
   pub stand : (ts : List SigToken) → Divides file 0 ts whole bytes → Stand file bytes 0 ts
-  stand ts d = stand_from d refl
+  stand ts d = to_last 0 ts (stand_up_to ts whole d)
 
-  -- where a division ends before the bytes do
-  stray_from : {at p : ℕ} {ts : List SigToken} {rest : List ℕ} → Divides file at ts (stray p) rest → rest ≡ drop at bytes → (p < length bytes) × BeginsNone (drop p bytes)
-  stray_from (at_gap {at = at} {b = b} {bytes = rest} g d) e = stray_from d (behind at b rest e)
-  stray_from (at_token {at = at} {n = n} h f d) e = stray_from d (ap (drop n) e ∙ drop-drop n at bytes)
-  stray_from (at_stray {at = at} {b = b} {bytes = rest} g h) e = (omega (arith, ap length e, length-drop at bytes), subst BeginsNone e h)
+  stops_from : {at : ℕ} {ts : List SigToken} {end : End} {rest : List ℕ} → Divides file at ts end rest → rest ≡ drop at bytes → StopsAt bytes end
+  stops_from at_end e = tt
+  stops_from (at_gap {at = at} {b = b} {bytes = rest} g d) e = stops_from d (behind at b rest e)
+  stops_from (at_token {at = at} {n = n} h f d) e = stops_from d (ap (drop n) e ∙ drop-drop n at bytes)
+  stops_from (at_stray {at = at} {b = b} {bytes = rest} g h) e = (omega (arith, ap length e, length-drop at bytes), subst BeginsNone e h)
+  stops_from (at_past {n = n} h f) e = (n, subst (BeginsWith kind.Int n) e h, subst (λ rest. Fits64 (take n rest) → ⊥) e f)
 
-  past_from : {at p : ℕ} {ts : List SigToken} {rest : List ℕ} → Divides file at ts (past p) rest → rest ≡ drop at bytes
-      → (n : ℕ) × BeginsWith kind.Int n (drop p bytes) × (Fits64 (take n (drop p bytes)) → ⊥)
-  past_from (at_gap {at = at} {b = b} {bytes = rest} g d) e = past_from d (behind at b rest e)
-  past_from (at_token {at = at} {n = n} h f d) e = past_from d (ap (drop n) e ∙ drop-drop n at bytes)
-  past_from (at_past {n = n} h f) e = (n, subst (BeginsWith kind.Int n) e h, subst (λ rest. Fits64 (take n rest) → ⊥) e f)
+  pub stops : (ts : List SigToken) (end : End) → Divides file 0 ts end bytes → StopsAt bytes end
+  stops ts end d = stops_from d refl
 
   pub stand_stray : (place : Place) (ts : List SigToken) (at : ℕ) → place ≡ span file at at → Divides file 0 ts (stray at) bytes → StandsRefused file bytes (refused.Fault place)
-  stand_stray place ts at e d = let h = stray_from d refl in (at, e, h.0, h.1)
+  stand_stray place ts at e d = let h = stops ts (stray at) d in (at, e, h.0, h.1)
 
   pub stand_past : (place : Place) (ts : List SigToken) (at : ℕ) → place ≡ span file at at → Divides file 0 ts (past at) bytes → StandsRefused file bytes (refused.Limit place)
-  stand_past place ts at e d = let h = past_from d refl in (at, h.0, e, h.1, h.2)
+  stand_past place ts at e d = let h = stops ts (past at) d in (at, h.0, e, h.1, h.2)

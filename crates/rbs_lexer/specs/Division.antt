@@ -5,6 +5,8 @@ use Rattle.sig_model.specs.declared.place.Place.{Place}
 use Rattle.rbs_lexer.specs.declared.token.TokenKind.{TokenKind}
 use Rattle.rbs_lexer.specs.declared.token.TokenKind.TheVariants as kind
 use Rattle.rbs_lexer.specs.declared.token.SigToken.{SigToken}
+use Rattle.rbs_lexer.specs.declared.division.Ending.{Ending}
+use Rattle.rbs_lexer.specs.declared.division.Ending.TheVariants as ending
 use Rattle.rbs_lexer.specs.declared.refused.LexRefused.{LexRefused}
 use Rattle.rbs_lexer.specs.declared.refused.LexRefused.TheVariants as refused
 use Rattle.rbs_lexer.specs.Integers.{Fits64}
@@ -33,6 +35,12 @@ pub data End : Type 0 where
   stray : ℕ → End
   -- at an integer past 64 bits, by its first byte
   past : ℕ → End
+
+-- the end that is answered
+abbrev pub end_of : Ending → End
+end_of ending.Whole = whole
+end_of (ending.Stray at) = stray at
+end_of (ending.PastInteger at) = past at
 
 -- `Divides file at ts e bytes`: the bytes, the first of which stands at `at`, are the tokens `ts` with blanks and newlines between them, up to the end `e`.
 pub data Divides (file : ℕ) : ℕ → List SigToken → End → List ℕ → Type 0 where

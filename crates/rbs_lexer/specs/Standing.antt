@@ -9,7 +9,7 @@ use Rattle.rbs_lexer.specs.declared.refused.LexRefused.{LexRefused}
 use Rattle.rbs_lexer.specs.declared.refused.LexRefused.TheVariants as refused
 use Rattle.rbs_lexer.specs.Integers.{Fits64}
 use Rattle.rbs_lexer.specs.Longest.{BeginsNone, BeginsWith}
-use Rattle.rbs_lexer.specs.Division.{is_gap, span}
+use Rattle.rbs_lexer.specs.Division.{is_gap, span, End, whole, stray, past}
 
 -- blanks and newlines alone
 abbrev pub AreGaps : List ℕ → Type 0
@@ -30,6 +30,23 @@ pub record StandsBehind (file : ℕ) (bytes : List ℕ) (at : ℕ) (t : SigToken
 abbrev pub Stand : ℕ → List ℕ → ℕ → List SigToken → Type 0
 Stand file bytes at [] = AreGaps (drop at bytes)
 Stand file bytes at (t ∷ ts) = StandsBehind file bytes at t × Stand file bytes t.place.end ts
+
+-- the byte at which a division ends
+abbrev pub stop_of : List ℕ → End → ℕ
+stop_of bytes whole = length bytes
+stop_of bytes (stray at) = at
+stop_of bytes (past at) = at
+
+-- the tokens stand in the bytes from `at` up to `to`, in order, and nothing else but blanks and newlines does
+abbrev pub StandUpTo : ℕ → List ℕ → ℕ → ℕ → List SigToken → Type 0
+StandUpTo file bytes to at [] = (at ≤ to) × AreGaps (slice_range bytes at to)
+StandUpTo file bytes to at (t ∷ ts) = StandsBehind file bytes at t × StandUpTo file bytes to t.place.end ts
+
+-- why a division ends: at the end of the bytes, at a byte that begins no token, or at the first byte of an integer past 64 bits
+abbrev pub StopsAt : List ℕ → End → Type 0
+StopsAt bytes whole = Unit {0}
+StopsAt bytes (stray at) = (at < length bytes) × BeginsNone (drop at bytes)
+StopsAt bytes (past at) = (n : ℕ) × BeginsWith kind.Int n (drop at bytes) × (Fits64 (take n (drop at bytes)) → ⊥)
 
 -- where a refusal stands: at a byte that begins no token, or at the first byte of an integer past 64 bits
 abbrev pub StandsRefused : ℕ → List ℕ → LexRefused → Type 0

@@ -1,6 +1,6 @@
 ghost use Rattle.std.specs.Prelude.{◌<◌, ◌^◌, length};
 
-use crate::{LexRefused, SigToken, TokenKind, tokens};
+use crate::{Divided, Ending, LexRefused, SigToken, TokenKind, divide, tokens};
 use std::alloc::Global;
 use std::process::Abort;
 use std::test::Fail;
@@ -20,6 +20,17 @@ fn kind_name(kind: TokenKind) -> &'static str {
     }
 }
 
+/// Tokens with their places, a space behind each.
+fn listed(alloc: Global, tokens: &[SigToken]) -> Result<String, Fail> {
+    let mut all = String::new(alloc);
+    for SigToken { place, kind } in tokens {
+        let name = kind_name(*kind);
+        let one = format!(in alloc; "{name} {}-{} ", place.start, place.end)?;
+        all.push_str(one.as_str())?;
+    }
+    Ok(all)
+}
+
 /// The tokens of a text with their places, or its refusal.
 fn shown(alloc: Global, text: &[u8]) -> Result<String, Fail>
     requires { length text.now < 2 ^ 32 }
@@ -34,12 +45,23 @@ fn shown(alloc: Global, text: &[u8]) -> Result<String, Fail>
         }
         Err(LexRefused::NoMemory) => return Ok(format!(in alloc; "no memory")?),
     };
-    let mut all = String::new(alloc);
-    for SigToken { place, kind } in found.as_slice() {
-        let name = kind_name(*kind);
-        let one = format!(in alloc; "{name} {}-{} ", place.start, place.end)?;
-        all.push_str(one.as_str())?;
-    }
+    listed(alloc, found.as_slice())
+}
+
+/// The tokens of a text up to where its division stops, and why it does.
+fn divided(alloc: Global, text: &[u8]) -> Result<String, Fail>
+    requires { length text.now < 2 ^ 32 }
+{
+    let Ok(Divided { tokens, ending }) = divide(alloc, 3, text) else {
+        return Ok(format!(in alloc; "no memory")?);
+    };
+    let mut all = listed(alloc, tokens.as_slice())?;
+    let last = match ending {
+        Ending::Whole => format!(in alloc; "whole")?,
+        Ending::Stray(at) => format!(in alloc; "stray {at}")?,
+        Ending::PastInteger(at) => format!(in alloc; "past {at}")?,
+    };
+    all.push_str(last.as_str())?;
     Ok(all)
 }
 
@@ -272,5 +294,37 @@ fn bytes_that_are_no_text(rt: HostRuntime) -> Result<(), Fail> {
     assert_eq!(rt; shown(alloc, b"a \"\xff\"")?.as_str(), "fault 3 2-2");
     assert_eq!(rt; shown(alloc, b"%a{\xff}")?.as_str(), "fault 3 3-3");
     assert_eq!(rt; shown(alloc, b"\x80")?.as_str(), "fault 3 0-0");
+    Ok(())
+}
+
+#[test]
+fn endings(rt: HostRuntime) -> Result<(), Fail> {
+    let cases: &[(&str, &str)] = &[
+        ("", "whole"),
+        (" \n", "whole"),
+        ("A b", "upper 0-1 ident 2-3 whole"),
+        ("A # b", "upper 0-1 comment 2-5 whole"),
+        (";", "stray 0"),
+        ("A;", "upper 0-1 stray 1"),
+        ("A b ; c", "upper 0-1 ident 2-3 stray 4"),
+        ("A \"b", "upper 0-1 stray 2"),
+        ("# a\n#b\n ;", "comment 0-3 comment 4-6 stray 8"),
+        ("9223372036854775807", "int 0-19 whole"),
+        ("9223372036854775808", "past 0"),
+        ("-9223372036854775808", "int 0-20 whole"),
+        ("-9223372036854775809", "past 0"),
+        ("A -9223372036854775809 ;", "upper 0-1 past 2"),
+        ("# a\n9223372036854775808", "comment 0-3 past 4"),
+        ("; 9223372036854775808", "stray 0"),
+    ];
+    for (text, expected) in cases {
+        let text: &str = text;
+        if text.len() < 1000 {
+            let found = divided(rt.alloc(), text.as_bytes())?;
+            assert_eq!(rt; found.as_str(), *expected, "{text}");
+        }
+    }
+    let broken = divided(rt.alloc(), b"A # b\xff")?;
+    assert_eq!(rt; broken.as_str(), "upper 0-1 comment 2-5 stray 5");
     Ok(())
 }

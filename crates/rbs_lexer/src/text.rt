@@ -1,43 +1,24 @@
 //! The tokens of a text.
 
-ghost use Rattle.std.specs.Prelude.{◌≡◌, ◌↔◌, ◌<◌, ◌^◌, length, IsTrue, IsUtf8, IfOk, IfErr, OnOk};
-ghost use Rattle.rbs_lexer.specs.Division.{is_gap, span, IsFit, Answers};
+ghost use Rattle.std.specs.Prelude.{◌≡◌, ◌<◌, ◌^◌, length, IsUtf8, IfOk, IfErr, OnOk};
+ghost use Rattle.rbs_lexer.specs.Division.{span, Answers};
 ghost use Rattle.rbs_lexer.specs.Standing.{Stand, StandsRefused, RefusesBroken};
 
-use crate::found::first_token;
-use crate::integers::fits;
+use crate::division::{Divided, Ending, divide};
 use crate::refused::LexRefused;
-use crate::token::{SigToken, TokenKind};
+use crate::token::SigToken;
 use plain_data::Many;
 use sig_model::place::Place;
 use std::alloc::Global;
 
-/// A space, a tab, a carriage return or a newline.
-fn is_gap(byte: u8) -> bool
-    ensures { result ≡ is_gap byte }
-{
-    byte == b' ' || byte == b'\t' || byte == b'\r' || byte == b'\n'
-}
-
-fn span(file: u32, start: usize, end: usize) -> Place
-    requires start { start < 2 ^ 32 }
-    requires end { end < 2 ^ 32 }
-    ensures { result ≡ span file start end }
+/// One byte's place, with no width.
+fn byte_place(file: u32, at: u32) -> Place
+    ensures { result ≡ span file at at }
 {
     Place {
         file,
-        start: start as u32,
-        end: end as u32,
-    }
-}
-
-/// Whether a token is no integer past 64 bits.
-fn is_fit(kind: TokenKind, text: &[u8]) -> bool
-    ensures { IsTrue result ↔ IsFit kind text.now }
-{
-    match kind {
-        TokenKind::Int => fits(text),
-        _ => true,
+        start: at,
+        end: at,
     }
 }
 
@@ -56,25 +37,10 @@ pub fn tokens(alloc: Global, file: u32, bytes: &[u8]) -> Result<Many<SigToken>, 
     ensures refused { IfErr result (StandsRefused file bytes.now) }
     ensures broken { RefusesBroken bytes.now result }
 {
-    let mut tokens = Many::new(alloc);
-    let mut at = 0;
-    while at < bytes.len() {
-        if is_gap(bytes[at]) {
-            at += 1;
-        } else {
-            let Some(found) = first_token(&bytes[at..]) else {
-                return Err(LexRefused::Fault(span(file, at, at)));
-            };
-            let end = at + found.size;
-            if !is_fit(found.kind, &bytes[at..end]) {
-                return Err(LexRefused::Limit(span(file, at, at)));
-            }
-            tokens.push(SigToken {
-                place: span(file, at, end),
-                kind: found.kind,
-            })?;
-            at = end;
-        }
+    let Divided { tokens, ending } = divide(alloc, file, bytes)?;
+    match ending {
+        Ending::Whole => Ok(tokens),
+        Ending::Stray(at) => Err(LexRefused::Fault(byte_place(file, at))),
+        Ending::PastInteger(at) => Err(LexRefused::Limit(byte_place(file, at))),
     }
-    Ok(tokens)
 }

@@ -1,7 +1,7 @@
 use Rattle.std.proofs.Common.{◌-◌, ◌≤◌, ◌++◌, List, length, drop}
 use Rattle.rbs_lexer.specs.declared.token.SigToken.{SigToken}
 use Rattle.rbs_lexer.specs.Division.{End, Divides}
-use Rattle.rbs_lexer.proofs.text.tokens.Given as goal
+use Rattle.rbs_lexer.proofs.division.divide.Given as goal
 
 abbrev pub invariant-loop-at : goal.invariant-loop-at
 invariant-loop-at l = record {
