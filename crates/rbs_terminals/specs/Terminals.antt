@@ -29,6 +29,11 @@ abbrev pub gap_at : List ℕ → Option ℕ → ℕ → Gap
 gap_at bytes None start = gap.Line
 gap_at bytes (Some end) start = if end == start then gap.Joined else if newlines bytes end start == 0 then gap.Blank else gap.Line
 
+-- where the terminal before ends, 0 where there is none
+abbrev pub end_or_start : Option ℕ → ℕ
+end_or_start None = 0
+end_or_start (Some end) = end
+
 -- nothing but blanks stands on a line before the byte `start`: the text begins on that line, or what stands before ends on an earlier one
 abbrev pub begins_line : List ℕ → Before → ℕ → Bool
 begins_line bytes before start = before.end == 0 || nat_lt 0 (newlines bytes before.end start)
@@ -59,7 +64,7 @@ abbrev pub terminal_at : List ℕ → Before → SigToken → Token
 terminal_at bytes before t =
     record {
       kind = kind_at t.kind (text_of bytes t);
-      spot = record { gap = gap_at bytes before.last t.place.start; start = t.place.start; end = t.place.end; comments = carried bytes before t.place.start };
+      spot = record { before = end_or_start before.last; gap = gap_at bytes before.last t.place.start; start = t.place.start; end = t.place.end; comments = carried bytes before t.place.start };
     }
 
 -- the terminals that these tokens are, behind what was read before

@@ -68,6 +68,15 @@ fn gap_at(bytes: &[u8], last: Option<u32>, start: u32) -> Gap
     }
 }
 
+fn end_or_start(last: Option<u32>) -> u32
+    ensures { result ≡ at.end_or_start last }
+{
+    match last {
+        None => 0,
+        Some(end) => end,
+    }
+}
+
 impl Before {
     /// Where nothing was read yet.
     pub fn new(alloc: Global) -> Before
@@ -125,6 +134,7 @@ impl Before {
         let place = token.place;
         let kind = kind_of(alloc, token.kind, text_of(bytes, token))?;
         let gap = gap_at(bytes, self.last, place.start);
+        let before = end_or_start(self.last);
         let mut comments = mem::replace(&mut self.comments, Many::new(alloc));
         if !comments.is_empty() && newlines(bytes, self.end, place.start) != 1 {
             comments = Many::new(alloc);
@@ -134,6 +144,7 @@ impl Before {
         Ok(Token {
             kind,
             spot: Spot {
+                before,
                 gap,
                 start: place.start,
                 end: place.end,

@@ -53,7 +53,10 @@ fn expect(rt: &impl Abort, alloc: Global, text: &str, expected: &[&str]) -> Resu
         let found = all_terminals(alloc, 3, text.as_bytes()).ok();
         let found = found.expect(rt, "terminals");
         assert_eq!(rt; found.len(), expected.len(), "{text}");
+        let mut before = 0;
         for (token, expected) in found.as_slice().iter().zip(expected) {
+            assert_eq!(rt; token.spot.before, before, "{text}");
+            before = token.spot.end;
             let token = token_text(alloc, token)?;
             assert_eq!(rt; token.as_str(), *expected, "{text}");
         }

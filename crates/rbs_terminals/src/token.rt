@@ -111,6 +111,8 @@ pub enum Gap {
 /// them or behind them. A comment's text is what follows its `#` on its line.
 #[derive(Debug, Drop)]
 pub struct Spot {
+    /// Where the token before this one ends, 0 where there is none.
+    pub before: u32,
     pub gap: Gap,
     pub start: u32,
     pub end: u32,
