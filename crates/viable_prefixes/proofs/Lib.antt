@@ -1,0 +1,4 @@
+pub mod Goes
+pub mod Machines
+pub mod Texts
+pub mod Prefixes
