@@ -1,0 +1,5 @@
+use Rattle.rbs_types.proofs.Empty.{no_ty_is}
+use Rattle.rbs_types.proofs.tall.Talls.is_empty.Goals as goal
+
+pub returns : goal.returns
+returns c = rw (← c.self.view_is) (no_ty_is c.is_empty.result _ c.is_empty.ensures)

@@ -1,0 +1,10 @@
+pub mod Capped
+pub mod Twins
+pub mod Plains
+pub mod Symbols
+pub mod Parts
+pub mod Grammar
+pub mod Machine
+pub mod Depth
+pub mod Needs
+pub mod Limits
