@@ -36,9 +36,9 @@ use Rattle.rbs_types.proofs.Through.{rests, taken, through}
 pub use Rattle.rbs_types.proofs.Followers.{Follows}
 use Rattle.rbs_types.proofs.Followers.{follows_inter, follows_opt, follows_simple, word_follows, parameter_follows, is_positional, positional_followed, EndsParameter}
 use Rattle.rbs_types.proofs.Openings.{UnlistedBefore, types_open, argument_opens, keys_open, parameters_open, blocked_opens}
-use Rattle.rbs_types.proofs.Behind as behind
-pub use Rattle.rbs_types.proofs.Behind.{place, behind_type}
-use Rattle.rbs_types.proofs.Behind.{behind_inter, behind_opt, behind_simple, behind_name, owner_begins}
+use Rattle.rbs_types.proofs.BehindTypes as behind
+pub use Rattle.rbs_types.proofs.BehindTypes.{place, behind_type}
+use Rattle.rbs_types.proofs.BehindTypes.{behind_inter, behind_opt, behind_simple, behind_name, owner_begins}
 
 -- no token goes on with a phrase that ends by itself
 nothing_closed : (t : PlainTy) (k : Kind) → after_simple t closed_level [] k ≡ None

@@ -2,12 +2,14 @@ pub mod Through
 pub mod Caps
 pub mod Empty
 pub mod Levels
+pub mod Turns
+pub mod Fronts
 pub mod Heights
 pub mod Needs
 pub mod Depths
 pub mod Followers
 pub mod Openings
-pub mod Behind
+pub mod BehindTypes
 pub mod Complete
 pub mod Places
 pub mod Sound

@@ -1,5 +1,5 @@
 -- The reader of types within the limits: the one type that tokens spell, or the place right behind the longest front with which such a text begins.
-use Rattle.std.proofs.Common.{ℕ, ◌+◌, ◌≤◌, ◌<◌, ◌≡◌, List, [], ◌∷◌, ◌++◌, take, length, Some, None, arith}
+use Rattle.std.proofs.Common.{ℕ, ◌+◌, ◌<◌, ◌≡◌, List, [], ◌∷◌, ◌++◌, take, length, Some, None, arith}
 use Rattle.rbs_terminals.specs.declared.token.Token.{Token}
 use Rattle.sig_model.specs.PlainTy.{PlainTy}
 use Rattle.sig_model.specs.Height.{height}
@@ -7,7 +7,7 @@ use Rattle.rbs_types.specs.declared.state.State.{State}
 use Rattle.rbs_types.specs.Machine.{start, next, final}
 use Rattle.rbs_types.specs.Depth.{Depth, behind}
 use Rattle.rbs_types.specs.Needs.{need, depth, reach}
-use Rattle.rbs_types.specs.Limits.{IsSmall, IsWritten, IsText, IsFaultyType}
+use Rattle.rbs_types.specs.Limits.{IsSmall, IsWritten, IsText, IsFaultyType, IsWithin}
 use Rattle.viable_prefixes.specs.Prefixes.{IsFault}
 use Rattle.viable_prefixes.proofs.Machines.{Machine, IsReader, Text}
 use Rattle.viable_prefixes.proofs.Goes.{Goes}
@@ -57,10 +57,6 @@ types_are_read = record {
 -- the tokens spell one type, if any
 pub types_are_spelled_once : (t u : PlainTy) (ts : List Token) → IsWritten t ts → IsWritten u ts → t ≡ u
 types_are_spelled_once = prefixes.spelled_once types types_are_read
-
--- a token led to the state, and some type within the limits goes on from there
-abbrev pub IsWithin : State → Token → Type 0
-IsWithin s c = (need s ≤ 200) × (reach s ≤ 400) × IsSmall c
 
 -- the reader took the tokens within the limits
 abbrev pub Took : List Token → State → Type 0

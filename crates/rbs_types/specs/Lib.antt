@@ -8,3 +8,6 @@ pub mod Machine
 pub mod Depth
 pub mod Needs
 pub mod Limits
+pub mod Does
+pub mod Takes
+pub mod Answers

@@ -5,8 +5,10 @@ use Rattle.rbs_terminals.specs.declared.token.Kind.{Kind}
 use Rattle.rbs_terminals.specs.declared.token.Kind.TheVariants as kind
 use Rattle.sig_model.specs.PlainTy.{PlainTy}
 use Rattle.sig_model.specs.Height.{height}
+use Rattle.rbs_types.specs.declared.state.State.{State}
 use Rattle.rbs_types.specs.Grammar.{Spells, type}
 use Rattle.rbs_types.specs.Depth.{OpenAtMost, surely}
+use Rattle.rbs_types.specs.Needs.{need, reach}
 use Rattle.viable_prefixes.specs.Runs.{Each}
 use Rattle.viable_prefixes.specs.Prefixes.{IsFault}
 
@@ -32,3 +34,7 @@ pub record IsText (t : PlainTy) (ts : List Token) : Type 0 where
 -- the longest front of the tokens with which a text begins has `n` of them
 abbrev pub IsFaultyType : List Token → ℕ → Type 0 → Type 0
 IsFaultyType ts n limit = IsFault IsText IsWritten ts n limit
+
+-- a token led to the state, and some type within the limits goes on from there
+abbrev pub IsWithin : State → Token → Type 0
+IsWithin s c = (need s ≤ 200) × (reach s ≤ 400) × IsSmall c

@@ -1,15 +1,31 @@
 //! Types of signatures, read one token at a time.
 #![tactic(auto)]
 
+mod begins;
+mod behind;
+mod functions;
+mod keys;
+mod parameters;
+mod parts;
+mod reading;
+mod refused;
 mod stack;
+mod starts;
 mod state;
+pub mod step;
 mod tall;
 mod tallest;
+mod text;
+mod type_names;
 mod within;
 
+pub use reading::Refused;
+pub use refused::Stuck;
 pub use stack::Stack;
+pub use starts::{start, start_arguments, start_function};
 pub use state::{
     Focus, Frame, Head, Level, Listed, Members, Opening, Owner, Parameters, Slot, State,
 };
 pub use tall::{Args, Block, Keys, Rest, Tall, Talls};
+pub use text::read_type;
 pub use within::is_within;
