@@ -1,0 +1,101 @@
+//! Runs tables of cases against the reader of types: it prints each case whose outcome isn't that of its table, and how
+//! many passed and failed. The words are the tables' names.
+#![tactic(auto)]
+
+mod failed;
+mod reading;
+mod shown_types;
+mod table;
+
+use crate::failed::Failed;
+use crate::reading::shown_outcome;
+use crate::table::{case_of, is_remark};
+use run_base::{StdFiles, read_all};
+use std::alloc::Global;
+use std::env::Env;
+use std::process::ExitCode;
+use std::{env, fs};
+
+/// The largest table, in bytes.
+const LIMIT: u32 = 1_048_576;
+
+/// How many cases passed and failed.
+#[derive(Clone, Copy, Debug)]
+struct Tally {
+    passed: u32,
+    failed: u32,
+}
+
+impl Tally {
+    fn count(&mut self, passed: bool) {
+        if passed {
+            self.passed = self.passed.saturating_add(1);
+        } else {
+            self.failed = self.failed.saturating_add(1);
+        }
+    }
+}
+
+/// Whether the case on a line passes. It is printed where it doesn't, with the front of its outcome.
+fn run_line<R: Print + Alloc<A = Global>>(rt: &R, number: u32, line: &str) -> Result<bool, Failed> {
+    let Some(case) = case_of(rt.alloc(), line)? else {
+        return Err(Failed::Line(number));
+    };
+    let found = shown_outcome(rt.alloc(), case.text.as_slice())?;
+    let passed = found.as_str() == case.expected.as_str();
+    if !passed {
+        println!(rt; "line {number}: {:.200}", found.as_str())?;
+    }
+    Ok(passed)
+}
+
+/// Runs the cases of the table with this name.
+fn run_table<R: Print + fs::Files + Alloc<A = Global>>(
+    rt: &R,
+    name: &str,
+    tally: &mut Tally,
+) -> Result<(), Failed> {
+    let mut files = StdFiles::new(rt);
+    let bytes = read_all(rt.alloc(), &mut files, name, LIMIT)?;
+    let Ok(table) = str::from_utf8(bytes.as_slice()) else {
+        return Err(Failed::Table);
+    };
+    let mut number = 0u32;
+    for line in table.lines() {
+        number = number.saturating_add(1);
+        if !is_remark(line) {
+            tally.count(run_line(rt, number, line)?);
+        }
+    }
+    Ok(())
+}
+
+/// Runs the cases of the tables that the words name.
+fn run_tables<R: Env + Print + fs::Files + Alloc<A = Global>>(rt: &R) -> Result<Tally, Failed> {
+    let mut tally = Tally {
+        passed: 0,
+        failed: 0,
+    };
+    for word in env::args(rt).map_err(|_| Failed::Words)?.skip(1) {
+        run_table(rt, word.as_str(), &mut tally)?;
+    }
+    Ok(tally)
+}
+
+/// Runs the tables and prints how many cases passed and failed. Answers whether none failed.
+fn run<R: Env + Print + fs::Files + Alloc<A = Global>>(rt: &R) -> Result<bool, Failed> {
+    let Tally { passed, failed } = run_tables(rt)?;
+    println!(rt; "{passed} passed, {failed} failed")?;
+    Ok(failed == 0)
+}
+
+fn main(rt: HostRuntime) -> ExitCode {
+    match run(&rt) {
+        Ok(true) => ExitCode::from(0),
+        Ok(false) => ExitCode::from(1),
+        Err(failed) => {
+            let _ = eprintln!(rt; "{failed:?}");
+            ExitCode::from(2)
+        }
+    }
+}
