@@ -24,7 +24,7 @@ pub record Stands (whole rest : List Token) (s : State) (end : ℕ) : Type 0 whe
   pub took : Took front s
   pub ended : end ≡ last_end front
 
-last_end_more : (ts : List Token) (c : Token) → last_end (ts ++ c ∷ []) ≡ c.spot.end
+pub last_end_more : (ts : List Token) (c : Token) → last_end (ts ++ c ∷ []) ≡ c.spot.end
 last_end_more [] c = refl
 last_end_more (a ∷ []) c = refl
 last_end_more (a ∷ b ∷ ts) c = last_end_more (b ∷ ts) c
@@ -58,15 +58,15 @@ stands_none whole old new stop first s end h moved is =
 
 -- ---- the front of a list, by its length
 
-take_front : (whole front rest : List Token) → whole ≡ front ++ rest → take (length front) whole ≡ front
+pub take_front : (whole front rest : List Token) → whole ≡ front ++ rest → take (length front) whole ≡ front
 take_front whole front rest is = ap (take (length front)) is ∙ take-append_seam front rest
 
-take_one_more : (whole front rest : List Token) (c : Token) → whole ≡ front ++ c ∷ rest → take (length front + 1) whole ≡ front ++ c ∷ []
+pub take_one_more : (whole front rest : List Token) (c : Token) → whole ≡ front ++ c ∷ rest → take (length front + 1) whole ≡ front ++ c ∷ []
 take_one_more whole front rest c is =
     let longer : length front + 1 ≡ length (front ++ c ∷ []) = sym (length-append front (c ∷ [])) in
     ap (λ n. take n whole) longer ∙ take_front whole (front ++ c ∷ []) rest (is ∙ sym (append_assoc front (c ∷ []) rest))
 
-front_is_short : (whole front rest : List Token) (c : Token) → whole ≡ front ++ c ∷ rest → length front < length whole
+pub front_is_short : (whole front rest : List Token) (c : Token) → whole ≡ front ++ c ∷ rest → length front < length whole
 front_is_short whole front rest c is =
     let all : length whole ≡ length front + length (c ∷ rest) = ap length is ∙ length-append front (c ∷ rest) in
     omega (arith, all)

@@ -18,3 +18,4 @@ pub mod Finishes
 pub mod Closing
 pub mod Finish
 pub mod Main
+pub mod Strays

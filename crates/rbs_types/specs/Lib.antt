@@ -11,3 +11,4 @@ pub mod Limits
 pub mod Does
 pub mod Takes
 pub mod Answers
+pub mod Ends

@@ -1,5 +1,5 @@
 -- The parts of types that are made in several steps: names, parameters and functions.
-use Rattle.std.specs.Prelude.{ℕ, Bool, true, false, ◌&&◌, if◌then◌else◌, List, [], ◌∷◌, ◌++◌, Option}
+use Rattle.std.specs.Prelude.{ℕ, Bool, true, false, ◌&&◌, if◌then◌else◌, List, [], ◌∷◌, ◌++◌, Option, Some, None}
 use Rattle.sig_model.specs.declared.ty.TypeName.{TypeName}
 use Rattle.sig_model.specs.PlainTy as plain
 use Rattle.sig_model.specs.PlainTy.{PlainTy, PlainFun, PlainBlock}
@@ -71,3 +71,8 @@ function_of l b t = plain.function l.parameters.required l.parameters.optional l
 
 abbrev pub ended : Head → PlainTy → PlainTy
 ended h t = plain.fun (function_of h.listed h.block t)
+
+-- the function that a type is, if it is one
+abbrev pub function_in : PlainTy → Option PlainFun
+function_in (plain.fun f) = Some f
+function_in _ = None

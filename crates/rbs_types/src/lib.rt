@@ -3,6 +3,7 @@
 
 mod begins;
 mod behind;
+mod ended;
 mod functions;
 mod keys;
 mod parameters;
@@ -19,6 +20,7 @@ mod text;
 mod type_names;
 mod within;
 
+pub use ended::is_ended;
 pub use reading::Refused;
 pub use refused::Stuck;
 pub use stack::Stack;
@@ -28,4 +30,4 @@ pub use state::{
 };
 pub use tall::{Args, Block, Keys, Rest, Tall, Talls};
 pub use text::read_type;
-pub use within::is_within;
+pub use within::{is_within, need_of, reach_of};

@@ -3,13 +3,13 @@
 //! Heights are counted up to [`MOST`](crate::tallest::MOST): what is higher counts as that high, which is past every limit.
 #![tactic(auto, using(crate::proofs::Caps::tall_types))]
 
-ghost use Rattle.std.specs.Prelude.{◌≡◌, Option, Some, None, pos, IfOk};
+ghost use Rattle.std.specs.Prelude.{◌≡◌, Option, Some, None, pos, IfOk, MatchOption};
 ghost use Rattle.sig_model.specs.PlainTy as plain;
-ghost use Rattle.sig_model.specs.PlainTy.{plain_ty, plain_fun};
+ghost use Rattle.sig_model.specs.PlainTy.{plain_ty, plain_tys, plain_fun};
 ghost use Rattle.sig_model.specs.Height.{height, tallest, tallest_key, tallest_arg, rest_height, block_height, fun_height};
 ghost use Rattle.rbs_types.specs.Capped.{capped};
 ghost use Rattle.rbs_types.specs.Plains.{and_ty, and_key, and_arg, is_new, no_ty, no_key, no_arg, no_rest_yet};
-ghost use Rattle.rbs_types.specs.Parts.{function_of};
+ghost use Rattle.rbs_types.specs.Parts.{function_of, function_in};
 
 use crate::state::{Listed, Parameters};
 use crate::tallest::above;
@@ -347,6 +347,26 @@ impl Tall {
         let Tall { ty, .. } = self;
         ty
     }
+
+    /// The function that the type is, or `None` where it is another type.
+    pub fn into_function(self) -> Option<FunTy>
+        ensures { MatchOption result (function_in self ≡ None) (λ f. self ≡ plain.fun (plain_fun f)) }
+    {
+        match self.into_ty() {
+            Ty::Fun(fun) => Some(fun.into_inner()),
+            Ty::Name { .. }
+            | Ty::Single(_)
+            | Ty::Opt(_)
+            | Ty::Union(_)
+            | Ty::Inter(_)
+            | Ty::Tuple(_)
+            | Ty::Rec(_)
+            | Ty::Int(_)
+            | Ty::Str(_)
+            | Ty::Sym(_)
+            | Ty::Base(_) => None,
+        }
+    }
 }
 
 impl Talls {
@@ -370,6 +390,14 @@ impl Talls {
         ensures { result ≡ no_ty self.now }
     {
         self.items.is_empty()
+    }
+
+    /// The types, moved.
+    pub fn into_tys(self) -> Many<Ty>
+        ensures { plain_tys result ≡ self }
+    {
+        let Talls { items, .. } = self;
+        items
     }
 
     /// The types, and one more.

@@ -21,8 +21,8 @@ pub fn is_within(state: &State, top: u32) -> bool
     need_of(state) <= top && reach_of(state) <= 400
 }
 
-/// The height of the least type that goes on from the state.
-fn need_of(state: &State) -> u32
+/// The height of the least type that goes on from the state, counted up to 1000.
+pub fn need_of(state: &State) -> u32
     ensures { result ≡ capped (need state.now) }
 {
     up(state.frames.as_slice(), need_at(&state.focus))
@@ -172,8 +172,8 @@ fn need_at(focus: &Focus) -> u32
     }
 }
 
-/// The least number of brackets that are open at once at some place of what goes on from the state.
-fn reach_of(state: &State) -> u32
+/// The least number of brackets that are open at once at some place of what goes on from the state, counted up to 1000.
+pub fn reach_of(state: &State) -> u32
     ensures { result ≡ capped (reach state.now) }
 {
     (frames_open(state.frames.as_slice()) + focus_open(&state.focus) + forced(&state.focus)).min(
