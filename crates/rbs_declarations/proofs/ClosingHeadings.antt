@@ -43,7 +43,7 @@ use Rattle.rbs_declarations.proofs.Valid.{Led}
 use Rattle.rbs_declarations.proofs.Fresh.{fresh_param, fresh_param_is_new}
 use Rattle.rbs_declarations.proofs.Heights.{params_and}
 use Rattle.rbs_declarations.proofs.Closes.{Closes, first, heading_ends, capital, underscored, small_word}
-use Rattle.rbs_declarations.proofs.Wholes.{completed}
+use Rattle.rbs_declarations.proofs.WholeTypes.{completed}
 use Rattle.rbs_declarations.proofs.ClosingTypes.{inside, closes_on, goes_behind, in_alias, in_constant, in_overload}
 
 -- the token that ends a declaration behind its name and parameters, or leads to its type

@@ -41,7 +41,7 @@ use Rattle.rbs_declarations.specs.Limits.{behind, open_at}
 use Rattle.rbs_declarations.proofs.Valid.{Led}
 use Rattle.rbs_declarations.proofs.Heights.{methods_and, inner_and, decls_and}
 use Rattle.rbs_declarations.proofs.Closes.{Closes, at_end, frames_end, heading_ends, member_ends}
-use Rattle.rbs_declarations.proofs.Wholes.{Leading, Whole, Completed, completed, is_function}
+use Rattle.rbs_declarations.proofs.WholeTypes.{Leading, Whole, Completed, completed, is_function}
 
 each_append : {T : Type 0} (P : T → Type 0) (xs ys : List T) → Each P xs → Each P ys → Each P (xs ++ ys)
 each_append P [] ys h k = k

@@ -27,9 +27,9 @@ use Rattle.rbs_declarations.specs.Words.{comments_at}
 use Rattle.rbs_declarations.specs.Grammar.{notes_at, Annotations, no_annotations, annotation, Declaration, declaration, Body, a_class, a_module, an_interface, a_type, a_constant, Parts, no_part, inner_part, member_part, InterfaceParts, no_interface_part, interface_part, File, end_of_file, further}
 use Rattle.rbs_declarations.specs.Machine.{at, start_of_file, naming_of, no_naming, with_decl, Site, in_file, in_class, in_interface, site_in, site_of, declaration_keyword, keyword_begins, constant_begins, begun_at, begins, no_notes_at, part_begins, next, final}
 use Rattle.rbs_declarations.proofs.Borders.{starts, Starts, Stops, annotations_start, body_starts, member_starts, interface_member_starts, parts_stop, interface_parts_stop, file_stops, stops_unbracketed, parent_unbracketed, selves_unbracketed}
-use Rattle.rbs_declarations.proofs.Reading.{from_state, here, goes_on, took, declared_on, alias_read, constant_read}
+use Rattle.rbs_declarations.proofs.Onward.{from_state, here, goes_on, took, declared_on, alias_read, constant_read}
 use Rattle.rbs_declarations.proofs.Members.{begun_with, member_read, interface_member_read}
-use Rattle.rbs_declarations.proofs.Headings.{declared_name_read, parameters_read, class_read, module_read, interface_read}
+use Rattle.rbs_declarations.proofs.DeclarationHeadings.{declared_name_read, parameters_read, class_read, module_read, interface_read}
 
 -- a declaration may stand there
 abbrev takes_declarations : Site → Type 0

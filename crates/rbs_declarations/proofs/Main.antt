@@ -2,6 +2,7 @@
 use Rattle.std.proofs.Common.{ℕ, ◌+◌, ◌<◌, ◌≡◌, refl, sym, ◌∙◌, ap, List, [], ◌∷◌, ◌++◌, take, length, Option, Some, None, option_and_then, arith}
 use Rattle.rbs_terminals.specs.declared.token.Token.{Token}
 use Rattle.sig_model.specs.PlainDecl.{PlainDecls}
+use Rattle.rbs_types.specs.Answers.{last_end}
 use Rattle.rbs_types.specs.Limits.{IsSmall}
 use Rattle.viable_prefixes.specs.Runs.{reads}
 use Rattle.viable_prefixes.specs.Prefixes.{IsFault}
@@ -12,7 +13,7 @@ use Rattle.rbs_declarations.specs.declared.state.State.{State}
 use Rattle.rbs_declarations.specs.Heights.{decls_height}
 use Rattle.rbs_declarations.specs.Machine.{start_of_file, next, final}
 use Rattle.rbs_declarations.specs.Needs.{need, reach}
-use Rattle.rbs_declarations.specs.Limits.{last_end, IsWithin, IsWritten, behind, open_at, IsText, IsFaultyFile}
+use Rattle.rbs_declarations.specs.Limits.{IsWithin, IsWritten, behind, open_at, IsText, IsFaultyFile}
 use Rattle.rbs_declarations.proofs.Valid.{Valid, valid_start, valid_next}
 use Rattle.rbs_declarations.proofs.Needs.{need_next, need_final}
 use Rattle.rbs_declarations.proofs.Opens.{sure_reach, reach_next, reach_final}

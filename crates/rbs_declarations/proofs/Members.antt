@@ -25,10 +25,10 @@ use Rattle.rbs_declarations.specs.Words.{vis_of, attribute_of, mixin_of, vis_bel
 use Rattle.rbs_declarations.specs.Grammar.{Applied, Visible, unsaid, said, Single, of_instances, of_itself, Method, method_of, Member, a_method, attribute, a_mixin, an_alias, variable, a_section, InterfaceMember, interface_method, interface_mixin}
 use Rattle.rbs_declarations.specs.Machine.{at, no_naming, in_class, in_interface, site_in, mixin_use, mixin_begins, attribute_begins, vis_begins, member_keyword, keyword_begins, variable_begins, begun_at, then_part, signed, attribute_named, with_section, visible_attribute, visible_member}
 use Rattle.rbs_declarations.proofs.Borders.{Stops, stops_unbracketed}
-use Rattle.rbs_declarations.proofs.Reading.{here, goes_on, took, behind, membered_on, attribute_read, variable_read}
+use Rattle.rbs_declarations.proofs.Onward.{here, goes_on, took, behind, membered_on, attribute_read, variable_read}
 use Rattle.rbs_declarations.proofs.Names.{mixin_place, mixin_takes, applied_read}
 use Rattle.rbs_declarations.proofs.MethodNames.{method_name_read, def_read}
-use Rattle.rbs_declarations.proofs.Aliases.{alias_read}
+use Rattle.rbs_declarations.proofs.MethodAliases.{alias_read}
 use Rattle.rbs_declarations.proofs.Overloads.{overloads_read}
 
 -- begun at the first of these tokens, with these notes

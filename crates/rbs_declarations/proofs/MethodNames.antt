@@ -20,7 +20,7 @@ use Rattle.rbs_declarations.specs.Operators.{operator_text}
 use Rattle.rbs_declarations.specs.Words.{is_joined, ending_of}
 use Rattle.rbs_declarations.specs.Grammar.{Marks, no_more, one_more, MethodName, bare_word, marked_word, an_operator, Single, of_instances, of_itself}
 use Rattle.rbs_declarations.specs.Machine.{at, signed, after_method_name, method_ending, ending_if, operator_ended, operator_begins, method_begins, after_def_self, after_method_word, text_of_self}
-use Rattle.rbs_declarations.proofs.Reading.{here, goes_on, took}
+use Rattle.rbs_declarations.proofs.Onward.{here, goes_on, took}
 
 -- no dot: behind `self` it would go on with the name
 abbrev undotted : Kind → Type 0

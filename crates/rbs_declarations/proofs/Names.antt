@@ -32,7 +32,7 @@ use Rattle.rbs_declarations.specs.declared.state.State.{State}
 use Rattle.rbs_declarations.specs.Grammar.{Applied, unapplied, applied}
 use Rattle.rbs_declarations.specs.Machine.{at, Progress, further, whole, before, naming_of, no_naming, whole_if, before_if, word_on, first_on, upper_on, use_of, site_of, mixin_use, name_goes, parent_goes, self_goes, bound_goes, bound_first, bound_class_goes, mixin_goes, after_whole, settled_type, step, whole_file, settled}
 use Rattle.rbs_declarations.proofs.Borders.{unbracketed, Unbracketed}
-use Rattle.rbs_declarations.proofs.Reading.{here, goes_on, feed, took, behind, typed_read}
+use Rattle.rbs_declarations.proofs.Onward.{here, goes_on, feed, took, behind, typed_read}
 
 -- a keyword is no part of a name
 abbrev pub no_keyword : Kind → Type 0

@@ -24,7 +24,7 @@ use Rattle.rbs_declarations.specs.Words.{end_at}
 use Rattle.rbs_declarations.specs.Grammar.{Params, no_params, params, Overloads, last_overload, more_overloads}
 use Rattle.rbs_declarations.specs.Machine.{typed, function_begins, after_overload, with_method, and_overload, after_function, then_part, typed_on}
 use Rattle.rbs_declarations.proofs.Borders.{stops, Stops, function_followed, unbracketed, Unbracketed, function_unbracketed}
-use Rattle.rbs_declarations.proofs.Reading.{here, goes_on, behind, typed_read, membered_on}
+use Rattle.rbs_declarations.proofs.Onward.{here, goes_on, behind, typed_read, membered_on}
 use Rattle.rbs_declarations.proofs.TypeParameters.{params_read}
 
 -- In the file of this number, whose last token ends at the byte `last`; among the parts of this frame.

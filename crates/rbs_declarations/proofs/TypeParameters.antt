@@ -24,7 +24,7 @@ use Rattle.rbs_declarations.specs.Grammar.{Unchecked, checked, unchecked, Varied
 use Rattle.rbs_declarations.specs.Machine as machine
 use Rattle.rbs_declarations.specs.Machine.{at, and_param, param_named, param_begins, after_param, after_param_name}
 use Rattle.rbs_declarations.proofs.Borders.{unbracketed, Unbracketed}
-use Rattle.rbs_declarations.proofs.Reading.{here, goes_on, took, behind}
+use Rattle.rbs_declarations.proofs.Onward.{here, goes_on, took, behind}
 use Rattle.rbs_declarations.proofs.Names.{bound_place, bound_class_place, bound_takes, name_read, applied_read}
 
 -- a comma, or the bracket that closes type parameters

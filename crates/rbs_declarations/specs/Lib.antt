@@ -6,3 +6,9 @@ pub mod Machine
 pub mod Heights
 pub mod Needs
 pub mod Limits
+pub mod Does
+pub mod Sites
+pub mod Groups
+pub mod WholeHeights
+pub mod Takes
+pub mod Answers

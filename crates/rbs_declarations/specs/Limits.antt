@@ -1,9 +1,10 @@
 -- The texts of files within the limits, and where a text that is none goes wrong.
-use Rattle.std.specs.Prelude.{ℕ, ◌≤◌, List, [], ◌∷◌, Option, Some, None}
+use Rattle.std.specs.Prelude.{ℕ, ◌≤◌, List, Option, Some, None}
 use Rattle.rbs_terminals.specs.declared.token.Token.{Token}
 use Rattle.sig_model.specs.PlainDecl as decl
 use Rattle.sig_model.specs.PlainDecl.{PlainDecls}
 use Rattle.rbs_types.specs.Limits.{IsSmall}
+use Rattle.rbs_types.specs.Answers.{last_end}
 use Rattle.viable_prefixes.specs.Runs.{Each, OpenAtMost}
 use Rattle.viable_prefixes.specs.Prefixes.{IsFault}
 use Rattle.rbs_declarations.specs.declared.state.State.{State}
@@ -11,12 +12,6 @@ use Rattle.rbs_declarations.specs.Grammar.{File}
 use Rattle.rbs_declarations.specs.Heights.{decls_height}
 use Rattle.rbs_declarations.specs.Machine.{next, start_of_file}
 use Rattle.rbs_declarations.specs.Needs.{need, opened, reach}
-
--- where the last token ends, 0 where there is none
-abbrev pub last_end : List Token → ℕ
-last_end [] = 0
-last_end (c ∷ []) = c.spot.end
-last_end (c ∷ ts) = last_end ts
 
 -- a token led to the state, and some text within the limits goes on from there
 abbrev pub IsWithin : State → Token → Type 0

@@ -1,7 +1,18 @@
 //! Lists of the parts of declarations, which contracts see as plain data.
+#![tactic(auto, using(crate::proofs::Pushed::pushed))]
 
-use plain_data::Many;
-use sig_model::decl::{Decl, MethodTy, Part, TyParam};
+ghost use Rattle.std.specs.Prelude.{◌≡◌, [], ◌∷◌, ◌++◌, IfOk};
+ghost use Rattle.sig_model.specs.PlainTy.{plain_fun};
+ghost use Rattle.sig_model.specs.PlainMember.{plain_param, plain_params, plain_methods, plain_member};
+ghost use Rattle.sig_model.specs.PlainDecl as decl;
+ghost use Rattle.sig_model.specs.PlainDecl.{plain_decl, plain_decls, plain_parts};
+ghost use Rattle.rbs_declarations.specs.Grammar.{is_new_param, and_inner, and_member, and_decl};
+
+use plain_data::{Many, NoMemory, Word};
+use sig_model::decl::{Decl, Member, MethodTy, Notes, Part, TyParam};
+use sig_model::place::Place;
+use sig_model::ty::FunTy;
+use std::alloc::Global;
 use std::marker::Model;
 
 /// Type parameters.
@@ -97,4 +108,142 @@ impl Model for Decls {
     ghost use Rattle.sig_model.specs.PlainDecl.{plain_decls};
 
     ghost view = { λ m. plain_decls m.items };
+}
+
+impl Params {
+    /// No parameter. Takes no memory.
+    pub fn new(alloc: Global) -> Params
+        ensures { result ≡ [] }
+    {
+        Params {
+            items: Many::new(alloc),
+        }
+    }
+
+    /// The parameters, and one more.
+    pub fn with(self, param: TyParam) -> Result<Params, NoMemory>
+        ensures { IfOk result (λ ps. ps ≡ self ++ plain_param param ∷ []) }
+    {
+        let Params { mut items } = self;
+        items.push(param)?;
+        Ok(Params { items })
+    }
+
+    /// No parameter has this name.
+    pub fn is_new(&self, name: &Word) -> bool
+        ensures { result ≡ is_new_param name.now self.now }
+    {
+        for param in self.items.as_slice() {
+            if *name == param.name {
+                return false;
+            }
+        }
+        true
+    }
+
+    /// The parameters, moved.
+    pub fn into_items(self) -> Many<TyParam>
+        ensures { plain_params result ≡ self }
+    {
+        let Params { items } = self;
+        items
+    }
+}
+
+impl Methods {
+    /// No overload. Takes no memory.
+    pub fn new(alloc: Global) -> Methods
+        ensures { result ≡ [] }
+    {
+        Methods {
+            items: Many::new(alloc),
+        }
+    }
+
+    /// The overloads, and one more.
+    pub fn with(self, params: Params, fun: FunTy) -> Result<Methods, NoMemory>
+        ensures { IfOk result (λ ms. ms ≡ self ++ record { params = params; fun = plain_fun fun } ∷ []) }
+    {
+        let Methods { mut items } = self;
+        let Params { items: params } = params;
+        items.push(MethodTy { params, fun })?;
+        Ok(Methods { items })
+    }
+
+    /// The overloads, moved.
+    pub fn into_items(self) -> Many<MethodTy>
+        ensures { plain_methods result ≡ self }
+    {
+        let Methods { items } = self;
+        items
+    }
+}
+
+impl Parts {
+    /// No part. Takes no memory.
+    pub fn new(alloc: Global) -> Parts
+        ensures { result ≡ decl.no_parts }
+    {
+        Parts {
+            items: Many::new(alloc),
+        }
+    }
+
+    /// The parts, and one more declaration.
+    pub fn with_inner(self, inner: Decl) -> Result<Parts, NoMemory>
+        ensures { IfOk result (λ ps. ps ≡ and_inner self (plain_decl inner)) }
+    {
+        let Parts { mut items } = self;
+        items.push(Part::Inner(inner))?;
+        Ok(Parts { items })
+    }
+
+    /// The parts, and one more member.
+    pub fn with_member(self, place: Place, notes: Notes, member: Member) -> Result<Parts, NoMemory>
+        ensures { IfOk result (λ ps. ps ≡ and_member self place notes (plain_member member)) }
+    {
+        let Parts { mut items } = self;
+        items.push(Part::Member {
+            place,
+            notes,
+            member,
+        })?;
+        Ok(Parts { items })
+    }
+
+    /// The parts, moved.
+    pub fn into_items(self) -> Many<Part>
+        ensures { plain_parts result ≡ self }
+    {
+        let Parts { items } = self;
+        items
+    }
+}
+
+impl Decls {
+    /// No declaration. Takes no memory.
+    pub fn new(alloc: Global) -> Decls
+        ensures { result ≡ decl.no_decls }
+    {
+        Decls {
+            items: Many::new(alloc),
+        }
+    }
+
+    /// The declarations, and one more.
+    pub fn with(self, last: Decl) -> Result<Decls, NoMemory>
+        ensures { IfOk result (λ ds. ds ≡ and_decl self (plain_decl last)) }
+    {
+        let Decls { mut items } = self;
+        items.push(last)?;
+        Ok(Decls { items })
+    }
+
+    /// The declarations, moved.
+    pub fn into_items(self) -> Many<Decl>
+        ensures { plain_decls result ≡ self }
+    {
+        let Decls { items } = self;
+        items
+    }
 }

@@ -25,7 +25,7 @@ use Rattle.rbs_declarations.specs.declared.state.Focus.TheVariants as focus
 use Rattle.rbs_declarations.specs.Grammar.{Params, no_params, params, Parent, no_parent, parent, SelfTypes, last_self, more_selves, Selves, no_selves, selves}
 use Rattle.rbs_declarations.specs.Machine.{at, no_naming, use_of, framed, opened, then_part, after_class_params, after_module_params, after_heading, params_begin, after_name, with_selves, after_self}
 use Rattle.rbs_declarations.proofs.Borders.{stops, Stops, stops_unbracketed, unbracketed, Unbracketed}
-use Rattle.rbs_declarations.proofs.Reading.{here, goes_on, took, behind}
+use Rattle.rbs_declarations.proofs.Onward.{here, goes_on, took, behind}
 use Rattle.rbs_declarations.proofs.Names.{declaration_place, parent_place, parent_takes, self_place, self_takes, behind_name, name_read, applied_read}
 use Rattle.rbs_declarations.proofs.TypeParameters.{params_read}
 

@@ -23,7 +23,7 @@ use Rattle.rbs_declarations.specs.Words.{method_word, is_capital, is_joined, end
 use Rattle.rbs_declarations.specs.Grammar.{Marks, no_more, one_more, MethodName, bare_word, marked_word, an_operator}
 use Rattle.rbs_declarations.specs.Machine.{at, double_equals, with_equals, then_part, ending_if, ending_at, with_alias, old_operator, old_begins, after_new, new_operator, new_begins, new_marked, new_marked_if, after_new_word, joined_equals, new_operator_ended, old_word_ended, old_operator_ended}
 use Rattle.rbs_declarations.proofs.Borders.{stops, Stops}
-use Rattle.rbs_declarations.proofs.Reading.{here, goes_on, took, membered_on}
+use Rattle.rbs_declarations.proofs.Onward.{here, goes_on, took, membered_on}
 
 -- In the file of this number, whose last token ends at the byte `last`; among the parts of this frame.
 module _ (file last : ℕ) (ds : PlainDecls) (f : Frame) (fs : List Frame) (begun : Begun) where

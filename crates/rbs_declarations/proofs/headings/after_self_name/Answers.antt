@@ -1,0 +1,8 @@
+use Rattle.rbs_declarations.proofs.Turns.{refuted}
+use Rattle.rbs_declarations.proofs.Passed.{self_goes_on}
+use Rattle.rbs_declarations.proofs.headings.after_self_name.Goals as goal
+
+pub returns-else-is_mark : goal.returns-else-is_mark
+returns-else-is_mark c =
+    self_goes_on c.args.around.file c.args.around.decls c.args.around.frames c.args.headed.begun c.args.headed.name c.args.headed.params c.args.selves c.args.last c.args.token.kind c.args.token.spot c.after_plain_self.result
+    (refuted c.is_mark.ensures c.if-is_mark.false) c.after_plain_self.ensures

@@ -1,0 +1,7 @@
+use Rattle.rbs_declarations.proofs.Turns.{refuted, bound_name_goes_on}
+use Rattle.rbs_declarations.proofs.params.after_bound_name.Goals as goal
+
+pub returns-else-is_mark : goal.returns-else-is_mark
+returns-else-is_mark c =
+    bound_name_goes_on c.args.around.file c.args.owner c.args.done c.args.around.decls c.args.around.frames c.args.param c.args.name c.args.kind c.after_named.result
+    (refuted c.is_mark.ensures c.if-is_mark.false) c.after_named.ensures
