@@ -1,5 +1,3 @@
-//! Why tables of cases could not be run.
-
 use plain_data::NoMemory;
 use run_base::ReadRefused;
 use std::alloc::AllocError;
@@ -8,7 +6,7 @@ use std::io;
 /// Why the cases could not be run.
 #[derive(Clone, Copy, Debug, PartialEq, Eq)]
 pub enum Failed {
-    /// The words could not be had.
+    /// The words are no pairs of a form and a table's name.
     Words,
     /// A table could not be read, or is no text.
     Table,

@@ -1,14 +1,16 @@
-//! Runs tables of cases against the reader of types: it prints each case whose outcome isn't that of its table, and how
-//! many passed and failed. The words are the tables' names.
+//! Runs tables of cases against the reader and the printer of signatures: it prints each case whose outcome isn't that of its table, and
+//! how many passed and failed. The words are pairs: `types`, `files` or `printed`, and a table's name.
 #![tactic(auto)]
 
+mod escapes;
 mod failed;
 mod reading;
+mod shown_declarations;
 mod shown_types;
 mod table;
 
 use crate::failed::Failed;
-use crate::reading::shown_outcome;
+use crate::reading::{Form, shown_outcome};
 use crate::table::{case_of, is_remark};
 use run_base::{StdFiles, read_all};
 use std::alloc::Global;
@@ -36,12 +38,26 @@ impl Tally {
     }
 }
 
+fn form_of(word: &str) -> Result<Form, Failed> {
+    match word {
+        "types" => Ok(Form::Type),
+        "files" => Ok(Form::File),
+        "printed" => Ok(Form::Printed),
+        _ => Err(Failed::Words),
+    }
+}
+
 /// Whether the case on a line passes. It is printed where it doesn't, with the front of its outcome.
-fn run_line<R: Print + Alloc<A = Global>>(rt: &R, number: u32, line: &str) -> Result<bool, Failed> {
+fn run_line<R: Print + Alloc<A = Global>>(
+    rt: &R,
+    form: Form,
+    number: u32,
+    line: &str,
+) -> Result<bool, Failed> {
     let Some(case) = case_of(rt.alloc(), line)? else {
         return Err(Failed::Line(number));
     };
-    let found = shown_outcome(rt.alloc(), case.text.as_slice())?;
+    let found = shown_outcome(rt.alloc(), form, case.text.as_slice())?;
     let passed = found.as_str() == case.expected.as_str();
     if !passed {
         println!(rt; "line {number}: {:.200}", found.as_str())?;
@@ -52,6 +68,7 @@ fn run_line<R: Print + Alloc<A = Global>>(rt: &R, number: u32, line: &str) -> Re
 /// Runs the cases of the table with this name.
 fn run_table<R: Print + fs::Files + Alloc<A = Global>>(
     rt: &R,
+    form: Form,
     name: &str,
     tally: &mut Tally,
 ) -> Result<(), Failed> {
@@ -64,7 +81,7 @@ fn run_table<R: Print + fs::Files + Alloc<A = Global>>(
     for line in table.lines() {
         number = number.saturating_add(1);
         if !is_remark(line) {
-            tally.count(run_line(rt, number, line)?);
+            tally.count(run_line(rt, form, number, line)?);
         }
     }
     Ok(())
@@ -76,10 +93,20 @@ fn run_tables<R: Env + Print + fs::Files + Alloc<A = Global>>(rt: &R) -> Result<
         passed: 0,
         failed: 0,
     };
+    let mut form = None;
     for word in env::args(rt).map_err(|_| Failed::Words)?.skip(1) {
-        run_table(rt, word.as_str(), &mut tally)?;
+        match form {
+            None => form = Some(form_of(word.as_str())?),
+            Some(known) => {
+                run_table(rt, known, word.as_str(), &mut tally)?;
+                form = None;
+            }
+        }
     }
-    Ok(tally)
+    match form {
+        None => Ok(tally),
+        Some(_) => Err(Failed::Words),
+    }
 }
 
 /// Runs the tables and prints how many cases passed and failed. Answers whether none failed.

@@ -3,7 +3,7 @@ use Rattle.rbs_lexer.specs.declared.token.SigToken.{SigToken}
 use Rattle.rbs_lexer.specs.Division.{end_of}
 use Rattle.rbs_terminals.specs.Terminals.{AllStand}
 use Rattle.rbs_terminals.proofs.Stands.{all_stand}
-use Rattle.signature_cases.proofs.reading.shown_outcome.Goals as goal
+use Rattle.signature_cases.proofs.reading.shown_type.Goals as goal
 
 pub new-terminals-requires : goal.new-terminals-requires
 new-terminals-requires c =
