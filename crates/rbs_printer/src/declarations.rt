@@ -229,7 +229,7 @@ fn add_decl(alloc: Global, depth: usize, decl: &Decl, out: &mut Many<u8>) -> Res
 ///
 /// # Errors
 ///
-/// `NoMemory` where there is none for it; what was added then is a front of it.
+/// `NoMemory` where there is none for it; what `out` holds then is not fixed.
 pub fn print(alloc: Global, decls: &[Decl], out: &mut Many<u8>) -> Result<(), NoMemory>
     ensures { OnOk result (out.new ≡ out.old ++ printed (plain_decls decls.now)) }
 {
