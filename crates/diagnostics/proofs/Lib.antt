@@ -1,0 +1,3 @@
+mod Newlines
+mod Sorting
+mod Names

@@ -1,12 +1,13 @@
 //! The lines of a list, and its summary.
 
-ghost use Rattle.std.specs.Prelude.{◌≡◌, ◌++◌, ◌<◌, ◌^◌, ◌-◌, IfOk, OnOk, length, codes};
+ghost use Rattle.std.specs.Prelude.{◌≡◌, ◌++◌, ◌<◌, ◌^◌, ◌-◌, IfOk, OnOk, OnErr, length, codes};
 ghost use Rattle.std.specs.Fmt.{decimal};
-ghost use Rattle.std.specs.Prelude.{IfSome, slice_get};
-ghost use Rattle.source_text.specs.Lines.{IsCursor, line_at, column_at};
-ghost use Rattle.diagnostics.specs.Lines.{argument, message, line_text, line_of, lines_of, summary, AllSmall, IsReached};
+ghost use Rattle.std.specs.Prelude.{IfSome, slice_get, ◌+◌, ◌==◌, count_by};
+ghost use Rattle.source_text.specs.Lines.{IsCursor, line_at, column_at, since_newline};
+ghost use Rattle.diagnostics.specs.Lines.{argument, message, line_in, line_text, line_of, lines_of, summary, AllSmall, IsReached};
 
 use crate::texts::{id_text, middle_text, opening_text};
+use bstr::ByteSlice;
 use plain_data::{Many, NoMemory, Word};
 use sig_model::diag::Diag;
 use source_text::{Cursor, move_to};
@@ -51,24 +52,65 @@ fn message(alloc: Global, diag: &Diag) -> Result<Many<u8>, NoMemory>
 /// The line of a diagnostic, in a file of this name, at this line and column.
 fn line_text(
     alloc: Global,
-    name: &Word,
-    line: u32,
-    column: u32,
+    name: &str,
+    line: u64,
+    column: u64,
     diag: &Diag,
 ) -> Result<Many<u8>, NoMemory>
     ensures { IfOk result (λ text. text ≡ line_text name.now line column diag.now) }
 {
     let mut text = Many::from_slice(alloc, name.as_bytes())?;
     text.extend(b":")?;
-    add_number(alloc, &mut text, u64::from(line))?;
+    add_number(alloc, &mut text, line)?;
     text.extend(b":")?;
-    add_number(alloc, &mut text, u64::from(column))?;
+    add_number(alloc, &mut text, column)?;
     text.extend(b": [")?;
     text.extend(id_text(diag.id).as_bytes())?;
     text.extend(b"] ")?;
     text.extend(message(alloc, diag)?.as_slice())?;
     text.extend(b"\n")?;
     Ok(text)
+}
+
+/// The line on which these bytes end, counted from 1.
+fn line_after(before: &[u8]) -> u64
+    ensures { result ≡ count_by (λ b. b == 10) before.now + 1 }
+{
+    before.find_iter(b"\n").count() as u64 + 1
+}
+
+/// The column at which these bytes end, in bytes from 1.
+fn column_after(before: &[u8]) -> u64
+    ensures { result ≡ since_newline 0 before.now + 1 }
+{
+    match before.rfind_byte(b'\n') {
+        Some(newline) => (before.len() - newline) as u64,
+        None => before.len() as u64 + 1,
+    }
+}
+
+/// Adds the line of a diagnostic in a file of this name and text: `FILE:LINE:COL: [ID] TEXT` and a newline.
+///
+/// Lines and columns count from 1, columns in bytes. An argument that is missing is empty, and a start behind the
+/// text's end counts as that end. It costs the bytes before the start; `add_lines` reads on from line to line.
+///
+/// # Errors
+///
+/// `NoMemory` where there is none for the line; `out` is as before then.
+pub fn line_of(
+    alloc: Global,
+    diag: &Diag,
+    name: &str,
+    text: &[u8],
+    out: &mut Many<u8>,
+) -> Result<(), NoMemory>
+    ensures ok { OnOk result (out.new ≡ out.old ++ line_in name.now text.now diag.now) }
+    ensures err { OnErr result (out.new ≡ out.old) }
+{
+    let start = text.len().min(diag.place.start as usize);
+    let before = &text[..start];
+    let line = line_text(alloc, name, line_after(before), column_after(before), diag)?;
+    out.extend(line.as_slice())
 }
 
 /// A file's place among the sources, and a place in its text.
@@ -116,8 +158,11 @@ fn add_line(
         start,
         diag.place.start as usize,
     );
-    let line = line_text(alloc, &sources[file].name, cursor.line, cursor.column, diag)?;
-    out.extend(line.as_slice())?;
+    let name = sources[file].name.as_str();
+    let line = u64::from(cursor.line);
+    let column = u64::from(cursor.column);
+    let text = line_text(alloc, name, line, column, diag)?;
+    out.extend(text.as_slice())?;
     Ok(Reached { file, cursor })
 }
 
@@ -143,14 +188,9 @@ pub fn add_lines(
     Ok(())
 }
 
-/// Adds the summary of a list of so many diagnostics over so many files.
-pub fn add_summary(
-    alloc: Global,
-    files: u64,
-    count: u64,
-    out: &mut Many<u8>,
-) -> Result<(), NoMemory>
-    ensures { OnOk result (out.new ≡ out.old ++ summary files count) }
+/// The summary of a list of so many diagnostics over so many files.
+fn summary_text(alloc: Global, files: u64, count: u64) -> Result<Many<u8>, NoMemory>
+    ensures { IfOk result (λ text. text ≡ summary files count) }
 {
     let mut line = Many::from_slice(alloc, b"checked ")?;
     add_number(alloc, &mut line, files)?;
@@ -158,5 +198,35 @@ pub fn add_summary(
     add_number(alloc, &mut line, count)?;
     line.extend(b" diagnostics")?;
     line.extend(b"\n")?;
-    out.extend(line.as_slice())
+    Ok(line)
+}
+
+/// Adds the summary of a list of so many diagnostics over so many files: `checked N files: M diagnostics` and a newline.
+///
+/// # Errors
+///
+/// `NoMemory` where there is none for it; `out` is as before then.
+pub fn summary(alloc: Global, files: u32, count: u64, out: &mut Many<u8>) -> Result<(), NoMemory>
+    ensures ok { OnOk result (out.new ≡ out.old ++ summary files count) }
+    ensures err { OnErr result (out.new ≡ out.old) }
+{
+    add_summary(alloc, u64::from(files), count, out)
+}
+
+/// Adds the summary of a list of so many diagnostics over so many files, which may be more than `summary` takes.
+///
+/// # Errors
+///
+/// `NoMemory` where there is none for it; `out` is as before then.
+pub fn add_summary(
+    alloc: Global,
+    files: u64,
+    count: u64,
+    out: &mut Many<u8>,
+) -> Result<(), NoMemory>
+    ensures ok { OnOk result (out.new ≡ out.old ++ summary files count) }
+    ensures err { OnErr result (out.new ≡ out.old) }
+{
+    let text = summary_text(alloc, files, count)?;
+    out.extend(text.as_slice())
 }
