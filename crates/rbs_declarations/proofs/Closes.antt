@@ -20,7 +20,7 @@ use Rattle.rbs_declarations.specs.Grammar.{and_decl}
 use Rattle.rbs_declarations.specs.Machine.{state_of, with_inner, framed, body_of, place_from, membered, ended_frame, then_part, next, final}
 use Rattle.rbs_declarations.specs.Heights.{member_height, decls_height}
 use Rattle.rbs_declarations.specs.Needs.{heading_height, focus_height, focus_open, need, opened, reach}
-use Rattle.rbs_declarations.specs.Limits.{behind, open_at}
+use Rattle.rbs_declarations.proofs.Behind.{behind, open_at}
 use Rattle.rbs_declarations.proofs.Opens.{sure_reach}
 use Rattle.rbs_declarations.proofs.Heights.{inner_and, member_and, decls_and, body_of_height}
 

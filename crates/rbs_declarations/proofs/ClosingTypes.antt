@@ -37,7 +37,7 @@ use Rattle.rbs_declarations.specs.Grammar.{and_decl}
 use Rattle.rbs_declarations.specs.Machine.{state_of, with_inner, place_from, settled_type, after_whole, after_final, typed_on, next, type_ended, whole_file, final, declared, membered, then_part}
 use Rattle.rbs_declarations.specs.Heights.{member_height, body_height, decls_height}
 use Rattle.rbs_declarations.specs.Needs.{frames_height, purpose_height, phrase_height, focus_height, purpose_open, reach}
-use Rattle.rbs_declarations.specs.Limits.{behind, open_at}
+use Rattle.rbs_declarations.proofs.Behind.{behind, open_at}
 use Rattle.rbs_declarations.proofs.Valid.{Led}
 use Rattle.rbs_declarations.proofs.Heights.{methods_and, inner_and, decls_and}
 use Rattle.rbs_declarations.proofs.Closes.{Closes, at_end, frames_end, heading_ends, member_ends}

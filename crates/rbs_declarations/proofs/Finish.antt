@@ -15,7 +15,7 @@ use Rattle.rbs_declarations.specs.declared.state.State.{State}
 use Rattle.rbs_declarations.specs.Machine.{state_of, site_of, next, final}
 use Rattle.rbs_declarations.specs.Heights.{decls_height}
 use Rattle.rbs_declarations.specs.Needs.{need, reach}
-use Rattle.rbs_declarations.specs.Limits.{behind, open_at}
+use Rattle.rbs_declarations.proofs.Behind.{behind, open_at}
 use Rattle.rbs_declarations.proofs.Valid.{InClass, TakesMixin, Leads, Fits, Valid}
 use Rattle.rbs_declarations.proofs.Closes.{Closes, at_end, frames_end}
 use Rattle.rbs_declarations.proofs.ClosingTypes.{inside, in_alias, in_constant, in_attribute, in_variable, in_overload, in_parent, in_self, in_mixin}

@@ -3,6 +3,10 @@ pub mod Valid
 pub mod Needs
 pub mod Opens
 pub mod Fresh
+pub mod OnTheWay
+pub mod Spans
+pub mod Onward
+pub mod Behind
 pub mod Closes
 pub mod WholeTypes
 pub mod ClosingTypes
@@ -18,7 +22,6 @@ pub mod MemberPlaces
 pub mod AliasPlaces
 pub mod Sound
 pub mod Borders
-pub mod Onward
 pub mod Names
 pub mod TypeParameters
 pub mod MethodNames

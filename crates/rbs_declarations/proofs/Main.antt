@@ -1,10 +1,10 @@
 -- The reader of declarations within the limits: the declarations that tokens spell, or the place right behind the longest front with which such a text begins.
-use Rattle.std.proofs.Common.{ℕ, ◌+◌, ◌<◌, ◌≡◌, refl, sym, ◌∙◌, ap, List, [], ◌∷◌, ◌++◌, take, length, Option, Some, None, option_and_then, arith}
+use Rattle.std.proofs.Common.{ℕ, ◌+◌, ◌<◌, ◌≤◌, ◌↔◌, ◌≡◌, refl, sym, ◌∙◌, ap, List, [], ◌∷◌, ◌++◌, take, length, Option, Some, None, option_and_then, arith}
 use Rattle.rbs_terminals.specs.declared.token.Token.{Token}
 use Rattle.sig_model.specs.PlainDecl.{PlainDecls}
 use Rattle.rbs_types.specs.Answers.{last_end}
 use Rattle.rbs_types.specs.Limits.{IsSmall}
-use Rattle.viable_prefixes.specs.Runs.{reads}
+use Rattle.viable_prefixes.specs.Runs.{reads, OpenAtMost}
 use Rattle.viable_prefixes.specs.Prefixes.{IsFault}
 use Rattle.viable_prefixes.proofs.Goes.{Goes}
 use Rattle.viable_prefixes.proofs.Machines.{Machine, IsReader, Text}
@@ -13,12 +13,15 @@ use Rattle.rbs_declarations.specs.declared.state.State.{State}
 use Rattle.rbs_declarations.specs.Heights.{decls_height}
 use Rattle.rbs_declarations.specs.Machine.{start_of_file, next, final}
 use Rattle.rbs_declarations.specs.Needs.{need, reach}
-use Rattle.rbs_declarations.specs.Limits.{IsWithin, IsWritten, behind, open_at, IsText, IsFaultyFile}
+use Rattle.rbs_declarations.specs.Openness.{file_open}
+use Rattle.rbs_declarations.specs.Limits.{IsWithin, IsWritten, IsText, IsFaultyFile}
 use Rattle.rbs_declarations.proofs.Valid.{Valid, valid_start, valid_next}
 use Rattle.rbs_declarations.proofs.Needs.{need_next, need_final}
 use Rattle.rbs_declarations.proofs.Opens.{sure_reach, reach_next, reach_final}
 use Rattle.rbs_declarations.proofs.Finish.{finish}
-use Rattle.rbs_declarations.proofs.Complete.{complete}
+use Rattle.rbs_declarations.proofs.Onward.{reading}
+use Rattle.rbs_declarations.proofs.Behind.{behind, open_at, open_is}
+use Rattle.rbs_declarations.proofs.Complete.{complete, most_is}
 use Rattle.rbs_declarations.proofs.Sound.{sound}
 
 -- A state, and where the last token before it ends.
@@ -125,11 +128,18 @@ module _ (file : ℕ) where
 
   -- ---- the limits of a text, by their names
 
+  -- what is open behind each token is as the derivation says
+  open_is_said : (ds : PlainDecls) (ts : List Token) → (d : IsWritten file ds ts) → OpenAtMost (behind file) (open_at file) 400 (Some start_of_file) ts ↔ (file_open d ≤ 400)
+  open_is_said ds ts d =
+      let both = open_is file (last_end ts) 400 start_of_file ts in
+      let same : (reading file (last_end ts) start_of_file ts).most ≡ file_open d = most_is file (last_end ts) ds ts d in
+      (λ h. let few : (reading file (last_end ts) start_of_file ts).most ≤ 400 = both.0 h in omega arith, λ h. let few : (reading file (last_end ts) start_of_file ts).most ≤ 400 = omega arith in both.1 few)
+
   is_text : (ds : PlainDecls) (ts : List Token) → Text files ds ts → IsText file ds ts
-  is_text ds ts h = record { written = h.0; height = h.1; nested = h.2; small = h.3 }
+  is_text ds ts h = record { written = h.0; height = h.1; nested = (open_is_said ds ts h.0).0 h.2; small = h.3 }
 
   of_text : (ds : PlainDecls) (ts : List Token) → IsText file ds ts → Text files ds ts
-  of_text ds ts h = (h.written, h.height, h.nested, h.small)
+  of_text ds ts h = (h.written, h.height, (open_is_said ds ts h.written).1 h.nested, h.small)
 
   named : (ts : List Token) (n : ℕ) (limit : Type 0) → IsFault (Text files) (IsWritten file) ts n limit → IsFaultyFile file ts n limit
   named ts n limit = prefixes.text_is (Text files) (IsText file) (IsWritten file) ts n limit is_text of_text

@@ -22,7 +22,7 @@ use Rattle.rbs_declarations.specs.declared.state.Focus.TheVariants as focus
 use Rattle.rbs_declarations.specs.declared.state.State.{State}
 use Rattle.rbs_declarations.specs.Machine.{state_of, after_bound_singleton, after_final, typed_on, type_ended, settled, whole_file, step, next, final}
 use Rattle.rbs_declarations.specs.Needs.{owner_open, purpose_open, inner_open, inner_reach, opened, reach}
-use Rattle.rbs_declarations.specs.Limits.{behind}
+use Rattle.rbs_declarations.proofs.Behind.{behind}
 use Rattle.rbs_declarations.proofs.Valid.{Valid}
 
 inner_reached : (f : Focus) → inner_open f ≤ inner_reach f

@@ -5,6 +5,7 @@ pub mod Grammar
 pub mod Machine
 pub mod Heights
 pub mod Needs
+pub mod Openness
 pub mod Limits
 pub mod Does
 pub mod Sites

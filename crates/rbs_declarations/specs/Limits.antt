@@ -1,17 +1,17 @@
 -- The texts of files within the limits, and where a text that is none goes wrong.
-use Rattle.std.specs.Prelude.{ℕ, ◌≤◌, List, Option, Some, None}
+use Rattle.std.specs.Prelude.{ℕ, ◌≤◌, List}
 use Rattle.rbs_terminals.specs.declared.token.Token.{Token}
 use Rattle.sig_model.specs.PlainDecl as decl
 use Rattle.sig_model.specs.PlainDecl.{PlainDecls}
 use Rattle.rbs_types.specs.Limits.{IsSmall}
 use Rattle.rbs_types.specs.Answers.{last_end}
-use Rattle.viable_prefixes.specs.Runs.{Each, OpenAtMost}
+use Rattle.viable_prefixes.specs.Runs.{Each}
 use Rattle.viable_prefixes.specs.Prefixes.{IsFault}
 use Rattle.rbs_declarations.specs.declared.state.State.{State}
 use Rattle.rbs_declarations.specs.Grammar.{File}
 use Rattle.rbs_declarations.specs.Heights.{decls_height}
-use Rattle.rbs_declarations.specs.Machine.{next, start_of_file}
-use Rattle.rbs_declarations.specs.Needs.{need, opened, reach}
+use Rattle.rbs_declarations.specs.Openness.{file_open}
+use Rattle.rbs_declarations.specs.Needs.{need, reach}
 
 -- a token led to the state, and some text within the limits goes on from there
 abbrev pub IsWithin : State → Token → Type 0
@@ -23,20 +23,11 @@ module _ (file : ℕ) where
   abbrev pub IsWritten : PlainDecls → List Token → Type 0
   IsWritten ds ts = File file (last_end ts) decl.no_decls ds ts
 
-  -- the reader's state behind a token, where there are no limits
-  abbrev pub behind : Option State → Token → Option State
-  behind None c = None
-  behind (Some m) c = next file m c
-
-  abbrev pub open_at : Option State → ℕ
-  open_at None = 0
-  open_at (Some m) = opened m
-
   -- the tokens spell the declarations, within the limits
   pub record IsText (ds : PlainDecls) (ts : List Token) : Type 0 where
     pub written : IsWritten ds ts
     pub height : decls_height ds ≤ 200
-    pub nested : OpenAtMost behind open_at 400 (Some start_of_file) ts
+    pub nested : file_open written ≤ 400
     pub small : Each IsSmall ts
 
   abbrev pub IsFaultyFile : List Token → ℕ → Type 0 → Type 0
