@@ -1,0 +1,13 @@
+pub mod Spelled
+pub mod RenderedTypes
+pub mod Rendered
+pub mod Ended
+pub mod EndedNames
+pub mod EndedSymbols
+pub mod EndedMarks
+pub mod ToldApart
+pub mod Divided
+pub mod Since
+pub mod FittingPieces
+pub mod Fitting
+pub mod Known
