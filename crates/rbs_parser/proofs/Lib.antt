@@ -1,11 +1,2 @@
-pub mod Runs
-pub mod LexerRuns
-pub mod LexerComplete
-pub mod LexerSound
-pub mod LexerMain
-pub mod Plain
-pub mod ParserComplete
-pub mod ParserSound
-pub mod ParserMain
-pub mod Named
-pub mod Members
+pub mod Main
+pub mod Last

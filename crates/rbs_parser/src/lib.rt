@@ -1,16 +1,11 @@
-//! Signatures, read: the classes that a text in UTF-8 declares.
+//! Signature text, read: the declarations that a file spells, or the type that a text does.
 #![tactic(auto)]
 
-mod classes;
-mod lexer;
-mod parser;
 mod refused;
-mod token;
-mod well_named;
-mod words;
-
-pub use classes::parse_classes;
-pub use refused::ParseRefused;
-
+mod stops;
 #[cfg(test)]
 mod tests;
+mod text;
+
+pub use refused::ParseRefused;
+pub use text::{parse, parse_type};

@@ -3,12 +3,13 @@
 use plain_data::NoMemory as Exhausted;
 use sig_model::place::Place;
 
-/// Why a signature file was refused.
+/// Why a text was refused. A place is that of one byte, with no width: the end of the longest front of its tokens with which a text begins that
+/// is read, 0 where it has none.
 #[derive(Clone, Copy, Debug, PartialEq, Eq)]
 pub enum ParseRefused {
-    /// The text is no signature file.
+    /// No text goes on with the token behind the place, or no text ends there.
     Syntax(Place),
-    /// The text is a signature file past the limits.
+    /// Only texts past a limit go on with the token behind the place. A text of more than 1,048,576 bytes is refused so at its first byte.
     Limit(Place),
     NoMemory,
 }

@@ -1,173 +1,81 @@
-use crate::{ParseRefused, parse_classes};
+use crate::{ParseRefused, parse, parse_type};
 use plain_data::NoMemory;
-use sig_model::decl::{Decl, DeclBody, Member, Part};
+use rbs_lexer::divide;
 use sig_model::place::Place;
-use sig_model::ty::{Arg, BaseTy, Ty};
 use std::alloc::Global;
 use std::test::Fail;
 
-const MAX_TEXT: usize = 1000;
+/// The most bytes that a text may have.
+const LIMIT: usize = 1_048_576;
 
-/// The first byte of the file that `count` reads.
-const FIRST_BYTE: Place = Place {
-    file: 3,
-    start: 0,
-    end: 0,
-};
-
-/// How many classes a text declares, or where it is refused.
+/// How many declarations a text spells.
 fn count(alloc: Global, bytes: &[u8]) -> Result<usize, ParseRefused> {
-    if bytes.len() > MAX_TEXT {
+    if bytes.len() > 2 * LIMIT {
         return Err(ParseRefused::NoMemory);
     }
-    Ok(parse_classes(alloc, 3, bytes)?.len())
+    let divided = divide(alloc, 3, bytes)?;
+    Ok(parse(alloc, 3, bytes, &divided)?.len())
 }
 
-/// Adds the places of a class and of its methods, in order.
-fn add_places(decl: &Decl, places: &mut Vec<(u32, u32)>) -> Result<(), NoMemory> {
-    places.push((decl.place.start, decl.place.end))?;
-    if let DeclBody::Class { parts, .. } = &decl.body {
-        for part in parts.as_slice() {
-            if let Part::Member { place, .. } = part {
-                places.push((place.start, place.end))?;
-            }
-        }
+/// Why a text is refused as a type.
+fn type_refusal(alloc: Global, bytes: &[u8]) -> Result<Option<ParseRefused>, NoMemory> {
+    if bytes.len() > 2 * LIMIT {
+        return Err(NoMemory);
     }
-    Ok(())
+    let divided = divide(alloc, 3, bytes)?;
+    Ok(parse_type(alloc, 3, bytes, &divided).err())
 }
 
-fn places_of(alloc: Global, text: &str) -> Result<Vec<(u32, u32)>, NoMemory> {
-    let mut places = Vec::new(alloc);
-    if text.len() <= MAX_TEXT
-        && let Ok(decls) = parse_classes(alloc, 0, text.as_bytes())
-    {
-        for decl in decls.as_slice() {
-            add_places(decl, &mut places)?;
-        }
-    }
-    Ok(places)
+fn syntax(at: u32) -> ParseRefused {
+    ParseRefused::Syntax(Place {
+        file: 3,
+        start: at,
+        end: at,
+    })
 }
 
-/// Adds the types of parameters, each with a space behind it.
-fn add_types(required: &[Arg], shown: &mut String) -> Result<(), NoMemory> {
-    for arg in required {
-        match &arg.ty {
-            Ty::Name { name, .. } => {
-                if let [word] = name.path.as_slice() {
-                    shown.push_str(word.as_str())?;
-                }
-            }
-            Ty::Base(BaseTy::Nil) => shown.push_str("nil")?,
-            _ => {}
-        }
-        shown.push(' ')?;
-    }
-    Ok(())
-}
-
-/// Adds the parameters of a class's methods, each method's with a bar behind them.
-fn add_parameters(decl: &Decl, shown: &mut String) -> Result<(), NoMemory> {
-    if let DeclBody::Class { parts, .. } = &decl.body {
-        for part in parts.as_slice() {
-            if let Part::Member {
-                member: Member::Method { overloads, .. },
-                ..
-            } = part
-                && let [overload] = overloads.as_slice()
-            {
-                add_types(overload.fun.required.as_slice(), shown)?;
-                shown.push('|')?;
-            }
-        }
-    }
-    Ok(())
-}
-
-fn parameters_of(alloc: Global, text: &str) -> Result<String, NoMemory> {
-    let mut shown = String::new(alloc);
-    if text.len() <= MAX_TEXT
-        && let Ok(decls) = parse_classes(alloc, 0, text.as_bytes())
-    {
-        for decl in decls.as_slice() {
-            add_parameters(decl, &mut shown)?;
-        }
-    }
-    Ok(shown)
+fn limit(at: u32) -> ParseRefused {
+    ParseRefused::Limit(Place {
+        file: 3,
+        start: at,
+        end: at,
+    })
 }
 
 #[test]
-fn places_are_in_bytes(rt: HostRuntime) -> Result<(), Fail> {
-    let text =
-        "# é\nclass Aé\t# of two\r\n  def one: () -> String\n\tdef _two2: ()->Aé end\nclass B\nend # B";
-    let places = places_of(rt.alloc(), text)?;
-    assert_eq!(rt;
-        places.as_slice(),
-        [(5, 72), (27, 48), (50, 68), (73, 84)].as_slice()
-    );
-    Ok(())
-}
-
-#[test]
-fn reads_good_texts(rt: HostRuntime) -> Result<(), Fail> {
-    let good: [(&str, usize); 9] = [
-        ("", 0),
-        ("# only a comment", 0),
-        ("\r\n\t # class A\n", 0),
-        ("class A end", 1),
-        ("class A end class B end # end", 2),
-        ("class A def initialize: () -> void end", 1),
-        (
-            "class A def a: () -> B def b: () -> Symbol end class B def a: () -> A end",
-            2,
-        ),
-        (
-            "class A def _foo: () -> nil def classes: () -> void def ende: () -> nil end",
-            1,
-        ),
-        ("class Nil def new_é: () -> Integer end", 1),
-    ];
-    for (text, classes) in good {
-        assert_eq!(rt; count(rt.alloc(), text.as_bytes()), Ok(classes), "{text}");
+fn declarations(rt: HostRuntime) -> Result<(), Fail> {
+    for (text, outcome) in [
+        ("", Ok(0)),
+        ("# nothing\n", Ok(0)),
+        ("class A end\n# c\nmodule B end", Ok(2)),
+        ("class A end class", Err(syntax(17))),
+        ("class A end end", Err(syntax(11))),
+        ("class A end $", Err(syntax(11))),
+        ("$", Err(syntax(0))),
+        ("type a = 9223372036854775807", Ok(1)),
+        ("type a = 9223372036854775808", Err(limit(8))),
+        ("class 9223372036854775808 end", Err(syntax(5))),
+    ] {
+        assert_eq!(rt; count(rt.alloc(), text.as_bytes()), outcome, "{text}");
     }
     Ok(())
 }
 
 #[test]
-fn refuses_other_texts(rt: HostRuntime) -> Result<(), Fail> {
-    let bad: [&str; 28] = [
-        "class A",
-        "class A def a: () -> nil",
-        "class A end end",
-        "class A # end",
-        "class a end",
-        "class A::B end",
-        "class",
-        "end",
-        "-",
-        "class A - end",
-        "class A def a: () - > nil end",
-        "class A def a: () -> ::Integer end",
-        "class A def a: () -> (Integer) end",
-        "class A def a: () -> bool end",
-        "class A def a?: () -> nil end",
-        "class A def a: -> Integer end",
-        "class A end class A end",
-        "class A def a: () -> nil def a: () -> nil end",
-        "class A def a: () -> Missing end",
-        "class String end",
-        "class A def to_s: () -> String end",
-        "class A def send: () -> nil end",
-        "class A def __a: () -> nil end",
-        "class A def unless: () -> nil end",
-        "class A def initialize: () -> Integer end",
-        "class A def _Foo: () -> nil end",
-        "class A def Foo: () -> nil end",
-        "class \u{e9} end",
-    ];
-    for text in bad {
+fn types(rt: HostRuntime) -> Result<(), Fail> {
+    for (text, refusal) in [
+        ("A | nil", None),
+        ("", Some(syntax(0))),
+        ("A |", Some(syntax(3))),
+        ("A B", Some(syntax(1))),
+        ("A $", Some(syntax(1))),
+        ("A | -9223372036854775808", None),
+        ("A | -9223372036854775809", Some(limit(3))),
+        ("A 9223372036854775808", Some(syntax(1))),
+    ] {
         assert_eq!(rt;
-            count(rt.alloc(), text.as_bytes()),
-            Err(ParseRefused::Syntax(FIRST_BYTE)),
+            type_refusal(rt.alloc(), text.as_bytes())?,
+            refusal,
             "{text}"
         );
     }
@@ -175,77 +83,12 @@ fn refuses_other_texts(rt: HostRuntime) -> Result<(), Fail> {
 }
 
 #[test]
-fn refuses_what_is_no_text(rt: HostRuntime) -> Result<(), Fail> {
-    assert_eq!(rt;
-        count(rt.alloc(), b"\xff"),
-        Err(ParseRefused::Syntax(FIRST_BYTE))
-    );
-    assert_eq!(rt;
-        count(rt.alloc(), b"# \xff\n"),
-        Err(ParseRefused::Syntax(FIRST_BYTE))
-    );
-    Ok(())
-}
-
-#[test]
-fn reads_parameters_in_order(rt: HostRuntime) -> Result<(), Fail> {
-    let good: [(&str, &str); 7] = [
-        ("class A def a: () -> nil end", "|"),
-        ("class A def a: (Integer) -> void end", "Integer |"),
-        ("class A def initialize: (nil) -> void end", "nil |"),
-        (
-            "class A def a: (Integer, String , Symbol,nil,A,Integer) -> A end",
-            "Integer String Symbol nil A Integer |",
-        ),
-        (
-            "class A def a: (B) -> nil def b: () -> nil def c: (B, A) -> B end class B def a: (A, B) -> A end",
-            "B ||B A |A B |",
-        ),
-        (
-            "class A def # )\n a # (\n : # (\n ( # nil\n Integer # String,\n\r\n,\tnil\n\n) # ,\n -> nil end",
-            "Integer nil |",
-        ),
-        ("class A\ndef a\n:(Integer\n,\nA)->nil\nend", "Integer A |"),
-    ];
-    for (text, shown) in good {
-        let parameters = parameters_of(rt.alloc(), text)?;
-        assert_eq!(rt; parameters.as_str(), shown, "{text}");
-    }
-    Ok(())
-}
-
-#[test]
-fn refuses_other_parameters(rt: HostRuntime) -> Result<(), Fail> {
-    let bad: [&str; 22] = [
-        "class A def a: (,) -> nil end",
-        "class A def a: (Integer,) -> nil end",
-        "class A def a: (,Integer) -> nil end",
-        "class A def a: (Integer,,String) -> nil end",
-        "class A def a: (Integer String) -> nil end",
-        "class A def a: (Integer, # String) -> nil\n end",
-        "class A def a: (void) -> nil end",
-        "class A def a: (Integer, void) -> void end",
-        "class A def a: (Missing) -> nil end",
-        "class A def a: (Integer, Missing, A) -> nil end",
-        "class A def a: (Object) -> nil end",
-        "class A def a: (bool) -> nil end",
-        "class A def a: (integer) -> nil end",
-        "class A def a: (::Integer) -> nil end",
-        "class A def a: ((Integer)) -> nil end",
-        "class A def a: (Integer one) -> nil end",
-        "class A def a: (Integer -> nil end",
-        "class A def a: Integer -> nil end",
-        "class A def a: Integer) -> nil end",
-        "class A def a: (Integer) (String) -> nil end",
-        "class A def initialize: (Integer) -> nil end",
-        "class A def a: (Integer) -> nil def a: (String) -> nil end",
-    ];
-    for text in bad {
-        assert_eq!(rt;
-            count(rt.alloc(), text.as_bytes()),
-            Err(ParseRefused::Syntax(FIRST_BYTE)),
-            "{text}"
-        );
-    }
+fn sizes(rt: HostRuntime) -> Result<(), Fail> {
+    let alloc = rt.alloc();
+    let blanks = vec![in alloc; b' '; LIMIT + 1]?;
+    assert_eq!(rt; count(alloc, &blanks[1..]), Ok(0));
+    assert_eq!(rt; count(alloc, blanks.as_slice()), Err(limit(0)));
+    assert_eq!(rt; type_refusal(alloc, &blanks[1..])?, Some(syntax(0)));
+    assert_eq!(rt; type_refusal(alloc, blanks.as_slice())?, Some(limit(0)));
     Ok(())
 }

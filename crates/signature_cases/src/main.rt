@@ -1,7 +1,8 @@
 //! Runs tables of cases against the reader and the printer of signatures: it prints each case whose outcome isn't that of its table, and
-//! how many passed and failed. The words are pairs: `types`, `files` or `printed`, and a table's name.
+//! how many passed and failed. The words are pairs: `types`, `files` or `printed`, and a table's name. The core signature is two more cases.
 #![tactic(auto)]
 
+mod core_cases;
 mod escapes;
 mod failed;
 mod reading;
@@ -9,6 +10,7 @@ mod shown_declarations;
 mod shown_types;
 mod table;
 
+use crate::core_cases::{is_printed, is_read};
 use crate::failed::Failed;
 use crate::reading::{Form, shown_outcome};
 use crate::table::{case_of, is_remark};
@@ -109,9 +111,21 @@ fn run_tables<R: Env + Print + fs::Files + Alloc<A = Global>>(rt: &R) -> Result<
     }
 }
 
-/// Runs the tables and prints how many cases passed and failed. Answers whether none failed.
+/// Counts a case of the core signature, which is printed where it doesn't pass.
+fn count_core<R: Print>(rt: &R, name: &str, passed: bool, tally: &mut Tally) -> Result<(), Failed> {
+    if !passed {
+        println!(rt; "core signature: {name}")?;
+    }
+    tally.count(passed);
+    Ok(())
+}
+
+/// Runs the tables and the cases of the core signature, and prints how many cases passed and failed. Answers whether none failed.
 fn run<R: Env + Print + fs::Files + Alloc<A = Global>>(rt: &R) -> Result<bool, Failed> {
-    let Tally { passed, failed } = run_tables(rt)?;
+    let mut tally = run_tables(rt)?;
+    count_core(rt, "not read so", is_read(rt.alloc())?, &mut tally)?;
+    count_core(rt, "not printed so", is_printed(rt.alloc())?, &mut tally)?;
+    let Tally { passed, failed } = tally;
     println!(rt; "{passed} passed, {failed} failed")?;
     Ok(failed == 0)
 }

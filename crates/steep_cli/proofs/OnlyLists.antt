@@ -5,15 +5,16 @@ use Rattle.body_check.specs.declared.table.ClassMethods.{ClassMethods}
 use Rattle.sig_model.specs.PlainDecl.{PlainDecls}
 use Rattle.sig_model.specs.declared.diag.Diag.{Diag}
 use Rattle.sig_model.specs.declared.diag.DiagId.TheVariants as id
-use Rattle.rbs_parser.specs.Profile.{IsSignature}
+use Rattle.signature_profile.specs.Profile.{IsSignature}
 use Rattle.ruby_reader.specs.declared.tree.Program.{Program}
 use Rattle.ruby_reader.specs.PlainLaws.{plain_program}
 use Rattle.ruby_reader.specs.Answers.{Answers}
 use Rattle.body_check.specs.Table.{classes_of}
 use Rattle.body_check.specs.Matching.{Matches}
 use Rattle.body_check.specs.Faults.{OfProgram}
-use Rattle.steep_cli.specs.Only.{IsOnly}
-use Rattle.steep_cli.specs.Lists.{limit, at_first, RubyLists, ruby_too_large, no_program, bodies, Lists, signature_too_large, no_signature, good_signature, AnswersProgram}
+use Rattle.call_outcomes.specs.Only.{IsOnly}
+use Rattle.call_outcomes.specs.Loads.{limit}
+use Rattle.steep_cli.specs.Lists.{at_first, RubyLists, ruby_too_large, no_program, bodies, Lists, signature_too_large, no_signature, good_signature, AnswersProgram}
 
 module _ (ds : PlainDecls) (bytes : List ℕ) where
   -- the bytes are the text of one program, and it matches or not

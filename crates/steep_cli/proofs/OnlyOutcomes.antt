@@ -5,13 +5,14 @@ use Rattle.run_base.specs.Files.{Shelf}
 use Rattle.sig_model.specs.declared.diag.Diag.{Diag}
 use Rattle.diagnostics.specs.declared.lines.Source.{Source}
 use Rattle.diagnostics.specs.Lines.{lines_of, summary}
-use Rattle.steep_cli.specs.declared.outcome.Outcome.{Outcome}
-use Rattle.steep_cli.specs.declared.load.Loaded.{Loaded}
-use Rattle.steep_cli.specs.declared.load.Loaded.TheVariants as loaded
-use Rattle.steep_cli.specs.Only.{IsOnly}
+use Rattle.call_outcomes.specs.declared.outcome.Outcome.{Outcome}
+use Rattle.call_outcomes.specs.declared.loading.Loaded.{Loaded}
+use Rattle.call_outcomes.specs.declared.loading.Loaded.TheVariants as loaded
+use Rattle.call_outcomes.specs.Only.{IsOnly}
 use Rattle.steep_cli.specs.Lists.{ruby_too_large, no_program, bodies, Lists, signature_too_large, no_signature, good_signature}
-use Rattle.steep_cli.specs.Loads.{IsLoaded, Loads, text_of}
-use Rattle.steep_cli.specs.Answer.{listed, source, list_status, IsList, IsSecond}
+use Rattle.call_outcomes.specs.Loads.{IsLoaded, Loads, text_of}
+use Rattle.call_outcomes.specs.Outcomes.{listed, source, list_status}
+use Rattle.steep_cli.specs.Answer.{IsList, IsSecond}
 
 abbrev pair : List ℕ → List ℕ → List ℕ → List ℕ → List Source
 pair a x b y = source a x ∷ source b y ∷ []

@@ -4,17 +4,14 @@ use Rattle.sig_model.specs.PlainDecl.{PlainDecls}
 use Rattle.sig_model.specs.declared.diag.Diag.{Diag}
 use Rattle.sig_model.specs.declared.diag.DiagId.{DiagId}
 use Rattle.sig_model.specs.declared.diag.DiagId.TheVariants as id
-use Rattle.rbs_parser.specs.Profile.{IsSignature}
+use Rattle.signature_profile.specs.Profile.{IsSignature}
 use Rattle.ruby_reader.specs.PlainTree.{PlainProgram}
 use Rattle.ruby_reader.specs.Grammar.{IsRuby}
 use Rattle.body_check.specs.Table.{classes_of}
 use Rattle.body_check.specs.Matching.{Matches}
 use Rattle.body_check.specs.Faults.{OfProgram}
-use Rattle.steep_cli.specs.Only.{IsOnly}
-
--- the most bytes of a file
-abbrev pub limit : ℕ
-limit = 1048576
+use Rattle.call_outcomes.specs.Only.{IsOnly}
+use Rattle.call_outcomes.specs.Loads.{limit}
 
 -- a fault of a whole file, at its first byte
 abbrev pub at_first : ℕ → DiagId → List Diag

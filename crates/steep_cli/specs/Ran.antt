@@ -1,18 +1,14 @@
 -- What holds after the top call.
-use Rattle.std.specs.Prelude.{◌≡◌, ℕ, Bool, true, false, nat_lt, List, Option, IfSome, MatchBool, Result, Ok, Err}
+use Rattle.std.specs.Prelude.{◌≡◌, ℕ, nat_lt, List, Option, IfSome, MatchBool, Result, Ok, Err}
 use Rattle.plain_data.specs.declared.memory.NoMemory.{NoMemory}
 use Rattle.run_base.specs.Files.{Shelf}
 use Rattle.run_base.specs.Sinks.{appended, WritesPrefix}
-use Rattle.steep_cli.specs.declared.outcome.Outcome.{Outcome}
-use Rattle.steep_cli.specs.declared.status.Status.{Status}
-use Rattle.steep_cli.specs.declared.status.Status.TheVariants.{WriteFault, ReadFault}
-use Rattle.steep_cli.specs.Answer.{IsAnswer, read_fault}
-use Rattle.steep_cli.specs.Only.{IsOnly}
-
-abbrev pub is_fault : Status → Bool
-is_fault ReadFault = true
-is_fault WriteFault = true
-is_fault _ = false
+use Rattle.call_outcomes.specs.declared.outcome.Outcome.{Outcome}
+use Rattle.call_outcomes.specs.declared.status.Status.{Status}
+use Rattle.call_outcomes.specs.declared.status.Status.TheVariants.{WriteFault}
+use Rattle.call_outcomes.specs.Only.{IsOnly}
+use Rattle.call_outcomes.specs.Outcomes.{read_fault}
+use Rattle.steep_cli.specs.Answer.{IsAnswer}
 
 -- What a call means to write: the line of a read fault where the files' count of faults rose, and else the one answer, where the files tell.
 abbrev pub IsMeant : Option Shelf → List (List ℕ) → ℕ → ℕ → Outcome → Type 0

@@ -2,12 +2,12 @@
 
 ghost use Rattle.std.specs.Prelude.{◌≡◌, ◌≢◌, ◌≤◌, ◌<◌, ◌^◌, ◌-◌, ◌⊎◌, ◌↔◌, Ok, IfOk, IfSome, length};
 ghost use Rattle.run_base.specs.Causes.{Rose};
-ghost use Rattle.steep_cli.specs.declared.outcome.Outcome.{Outcome};
+ghost use Rattle.call_outcomes.specs.declared.outcome.Outcome.{Outcome};
 ghost use Rattle.steep_cli.specs.Ran.{IsMeant, Wrote, Ran};
 
 use crate::Status;
-use crate::outcome::{Outcome, read_fault};
-use crate::plan::{PlanRefused, plan_of};
+use crate::plan::plan_of;
+use call_outcomes::{Outcome, PlanRefused, read_fault};
 use plain_data::{Many, NoMemory, Word};
 use run_base::{Files, Gate, Sink, write_all};
 use std::alloc::Global;

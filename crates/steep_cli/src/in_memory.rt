@@ -3,8 +3,8 @@
 ghost use Rattle.std.specs.Prelude.{◌≡◌, ◌≢◌, ◌<◌, ◌++◌, Ok, IfOk, length};
 ghost use Rattle.run_base.specs.MemFiles.{shelf_of};
 ghost use Rattle.run_base.specs.MemSinks.{assured};
-ghost use Rattle.steep_cli.specs.declared.outcome.Outcome.{Outcome};
-ghost use Rattle.steep_cli.specs.Only.{IsOnly};
+ghost use Rattle.call_outcomes.specs.declared.outcome.Outcome.{Outcome};
+ghost use Rattle.call_outcomes.specs.Only.{IsOnly};
 ghost use Rattle.steep_cli.specs.Answer.{IsAnswer};
 
 use crate::{Status, tool};

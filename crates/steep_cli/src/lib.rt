@@ -4,13 +4,10 @@
 pub mod call;
 pub mod in_memory;
 mod lists;
-mod load;
-pub mod outcome;
 mod plan;
-pub mod status;
 #[cfg(test)]
 mod tests;
 
 pub use call::tool;
+pub use call_outcomes::Status;
 pub use in_memory::tool_in_memory;
-pub use status::Status;

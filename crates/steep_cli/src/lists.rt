@@ -2,17 +2,17 @@
 
 ghost use Rattle.std.specs.Prelude.{◌≡◌, ◌≤◌, ◌<◌, ◌^◌, List, ℕ, length, IfOk};
 ghost use Rattle.sig_model.specs.PlainDecl.{plain_decls};
-ghost use Rattle.steep_cli.specs.Only.{IsOnly};
+ghost use Rattle.call_outcomes.specs.Only.{IsOnly};
 ghost use Rattle.steep_cli.specs.Lists.{at_first, RubyLists, Lists, AnswersProgram};
-ghost use Rattle.steep_cli.specs.Loads.{IsLoaded, IsSmall};
+ghost use Rattle.call_outcomes.specs.Loads.{IsLoaded, IsSmall};
 
-use crate::load::Loaded;
 use body_check::{check, classes_of};
+use call_outcomes::Loaded;
 use plain_data::{Many, NoMemory};
-use rbs_parser::{ParseRefused, parse_classes};
 use sig_model::decl::Decl;
 use sig_model::diag::{Diag, DiagId};
 use sig_model::place::Place;
+use signature_profile::read_classes;
 use std::alloc::Global;
 
 /// The number of the signature file: 0 and 1 are the core's.
@@ -82,11 +82,9 @@ fn signature_list(alloc: Global, bytes: &[u8], ruby: &Loaded) -> Result<Many<Dia
     requires ruby { IsSmall ruby.now }
     ensures { IfOk result (λ list. (text : List ℕ) → IsLoaded text ruby.now → IsOnly (Lists bytes.now text) list) }
 {
-    match parse_classes(alloc, SIGNATURE, bytes) {
-        Ok(decls) => ruby_list(alloc, decls.as_slice(), ruby),
-        Err(ParseRefused::Syntax(_)) => { at_first(alloc, SIGNATURE, DiagId::SignatureSyntaxError) }
-        Err(ParseRefused::Limit(_)) => at_first(alloc, SIGNATURE, DiagId::StrictLimit),
-        Err(ParseRefused::NoMemory) => Err(NoMemory),
+    match read_classes(alloc, SIGNATURE, bytes)? {
+        Some(decls) => ruby_list(alloc, decls.as_slice(), ruby),
+        None => at_first(alloc, SIGNATURE, DiagId::SignatureSyntaxError),
     }
 }
 

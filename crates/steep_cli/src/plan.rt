@@ -3,65 +3,19 @@
 ghost use Rattle.std.specs.Prelude.{◌≡◌, ◌≤◌, ◌⊎◌, ◌↔◌, [], ◌∷◌, List, ℕ, IfOk, IfSome, IsErrOf, false};
 ghost use Rattle.run_base.specs.Causes.{Rose};
 ghost use Rattle.diagnostics.specs.Lines.{AllSmall};
-ghost use Rattle.steep_cli.specs.Only.{IsOnly};
-ghost use Rattle.steep_cli.specs.Loads.{IsLoaded, IsSmall, text_of};
-ghost use Rattle.steep_cli.specs.Answer.{IsAnswer, IsChecked, IsFirst, IsSecond, IsList, is_file, listed, list_status, missing, source};
-ghost use Rattle.steep_cli.specs.Ran.{is_fault};
+ghost use Rattle.call_outcomes.specs.Only.{IsOnly};
+ghost use Rattle.call_outcomes.specs.Code.{is_fault};
+ghost use Rattle.call_outcomes.specs.Loads.{IsLoaded, IsSmall, text_of};
+ghost use Rattle.call_outcomes.specs.Outcomes.{source};
+ghost use Rattle.steep_cli.specs.Answer.{IsAnswer, IsChecked, IsFirst, IsSecond, IsList, is_file, is_command};
 
-use crate::Status;
 use crate::lists::list_of;
-use crate::load::{LoadRefused, Loaded, load};
-use crate::outcome::{Outcome, missing, usage};
-use diagnostics::{Source, add_lines, add_summary};
+use call_outcomes::{Loaded, Outcome, PlanRefused, listed, load, refusal, usage};
+use diagnostics::Source;
 use plain_data::{Many, NoMemory, Word};
+use print_command::print_files;
 use run_base::Files;
-use sig_model::diag::Diag;
 use std::alloc::Global;
-
-/// Why a command line has no outcome.
-#[derive(Clone, Copy, Debug, PartialEq, Eq)]
-pub enum PlanRefused {
-    Fault,
-    NoMemory,
-}
-
-impl From<NoMemory> for PlanRefused {
-    ghost use Rattle.std.specs.Prelude.{◌≡◌};
-    ghost use Rattle.steep_cli.specs.declared.plan.PlanRefused.TheVariants as plan_refused;
-
-    ghost from_gives = { λ _ e. e ≡ plan_refused.NoMemory };
-
-    fn from(_: NoMemory) -> Self {
-        PlanRefused::NoMemory
-    }
-}
-
-/// The status of a list.
-fn list_status(list: &[Diag]) -> Status
-    ensures status { result ≡ list_status list.now }
-    ensures fault { is_fault result ≡ false }
-{
-    match list {
-        [] => Status::Done,
-        [_, ..] => Status::Listed,
-    }
-}
-
-/// The outcome of a list over these files.
-fn listed(alloc: Global, sources: &[Source], list: &[Diag]) -> Result<Outcome, NoMemory>
-    requires { AllSmall sources.now }
-    ensures outcome { IfOk result (λ outcome. outcome ≡ listed sources.now list.now) }
-    ensures status { IfOk result (λ outcome. is_fault outcome.status ≡ false) }
-{
-    let mut out = Many::new(alloc);
-    add_lines(alloc, sources, list, &mut out)?;
-    add_summary(alloc, sources.len() as u64, list.len() as u64, &mut out)?;
-    Ok(Outcome {
-        out,
-        err: Many::new(alloc),
-        status: list_status(list),
-    })
-}
 
 /// The two files of a check.
 fn sources_of(
@@ -104,19 +58,6 @@ fn checked(
     let list = list_of(alloc, &signature, &ruby)?;
     let sources = sources_of(alloc, a, signature, b, ruby)?;
     listed(alloc, sources.as_slice(), list.as_slice())
-}
-
-/// What is answered where a file could not be read.
-fn refusal(alloc: Global, name: &Word, refused: LoadRefused) -> Result<Outcome, PlanRefused>
-    ensures fault { IsErrOf result PlanRefused.Fault ↔ (refused ≡ LoadRefused.Fault) }
-    ensures missing { IfOk result (λ outcome. (refused ≡ LoadRefused.Missing) × (outcome ≡ missing name.now)) }
-    ensures status { IfOk result (λ outcome. is_fault outcome.status ≡ false) }
-{
-    match refused {
-        LoadRefused::Missing => Ok(missing(alloc, name)?),
-        LoadRefused::Fault => Err(PlanRefused::Fault),
-        LoadRefused::NoMemory => Err(PlanRefused::NoMemory),
-    }
 }
 
 /// Reads the second file, and checks both.
@@ -186,6 +127,13 @@ fn check_command<F: Files>(
     }
 }
 
+/// The first two words are these.
+fn is_command(family: &Word, command: &Word, first: &str, second: &str) -> bool
+    ensures { result ≡ is_command family.now command.now first.now second.now }
+{
+    family.as_str() == first && command.as_str() == second
+}
+
 /// What a command line answers. Nothing is written.
 pub fn plan_of<F: Files>(
     alloc: Global,
@@ -202,8 +150,10 @@ pub fn plan_of<F: Files>(
     let [family, command, rest @ ..] = words.as_slice() else {
         return Ok(usage(alloc, "command")?);
     };
-    if family.as_str() == "steep" && command.as_str() == "check" {
+    if is_command(family, command, "steep", "check") {
         check_command(alloc, rest, files)
+    } else if is_command(family, command, "rbs", "print") {
+        print_files(alloc, rest, files)
     } else {
         Ok(usage(alloc, "command")?)
     }

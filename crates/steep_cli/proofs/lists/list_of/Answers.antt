@@ -1,7 +1,7 @@
 use Rattle.std.proofs.Common.{List, ℕ, subst, sym, ◌∙◌}
-use Rattle.steep_cli.specs.Only.{IsOnly}
+use Rattle.call_outcomes.specs.Only.{IsOnly}
 use Rattle.steep_cli.specs.Lists.{Lists}
-use Rattle.steep_cli.specs.Loads.{IsLoaded}
+use Rattle.call_outcomes.specs.Loads.{IsLoaded}
 use Rattle.steep_cli.proofs.OnlyLists.{only_large_signature, ok_is, ok_on}
 use Rattle.steep_cli.proofs.lists.list_of.Goals as goal
 

@@ -1,8 +1,8 @@
 use Rattle.std.proofs.Common.{List, ℕ}
 use Rattle.sig_model.specs.PlainDecl.{plain_decls}
-use Rattle.steep_cli.specs.Only.{IsOnly}
+use Rattle.call_outcomes.specs.Only.{IsOnly}
 use Rattle.steep_cli.specs.Lists.{RubyLists}
-use Rattle.steep_cli.specs.Loads.{IsLoaded}
+use Rattle.call_outcomes.specs.Loads.{IsLoaded}
 use Rattle.steep_cli.proofs.OnlyLists.{only_large, ok_is}
 use Rattle.steep_cli.proofs.lists.ruby_list.Goals as goal
 

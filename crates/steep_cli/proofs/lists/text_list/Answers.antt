@@ -1,5 +1,5 @@
 use Rattle.sig_model.specs.PlainDecl.{plain_decls}
-use Rattle.steep_cli.specs.Only.{IsOnly}
+use Rattle.call_outcomes.specs.Only.{IsOnly}
 use Rattle.steep_cli.specs.Lists.{RubyLists}
 use Rattle.steep_cli.proofs.OnlyLists.{only_bodies, only_none, ok_is}
 use Rattle.steep_cli.proofs.lists.text_list.Goals as goal

@@ -1,7 +1,8 @@
 use Rattle.std.proofs.Common.{◌≡◌, ◌∙◌, ap, List, ℕ}
-use Rattle.steep_cli.specs.Only.{IsOnly}
-use Rattle.steep_cli.specs.Loads.{IsLoaded}
-use Rattle.steep_cli.specs.Answer.{IsList, listed}
+use Rattle.call_outcomes.specs.Only.{IsOnly}
+use Rattle.call_outcomes.specs.Loads.{IsLoaded}
+use Rattle.call_outcomes.specs.Outcomes.{listed}
+use Rattle.steep_cli.specs.Answer.{IsList}
 use Rattle.steep_cli.proofs.OnlyLists.{ok_on}
 use Rattle.steep_cli.proofs.OnlyOutcomes.{only_listed_of}
 use Rattle.steep_cli.proofs.plan.checked.Goals as goal

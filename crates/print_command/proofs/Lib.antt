@@ -1,0 +1,6 @@
+pub mod OneReading
+pub mod OneOutcome
+pub mod Added
+pub mod ShownLines
+pub mod Answered
+pub mod Refusals

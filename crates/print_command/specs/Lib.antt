@@ -1,0 +1,4 @@
+pub mod Faults
+pub mod Prints
+pub mod Answer
+pub mod Reads

@@ -1,5 +1,0 @@
-use Rattle.rbs_parser.proofs.Members.{ClassesRead}
-use Rattle.rbs_parser.proofs.well_named.all_well_named.Given as goal
-
-abbrev pub invariant-loop-decl : goal.invariant-loop-decl
-invariant-loop-decl l = ClassesRead l.classes l.decls l.decl-index

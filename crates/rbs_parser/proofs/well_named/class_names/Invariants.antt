@@ -1,5 +1,0 @@
-use Rattle.rbs_parser.proofs.Members.{DeclsRead}
-use Rattle.rbs_parser.proofs.well_named.class_names.Given as goal
-
-abbrev pub invariant-loop-decl : goal.invariant-loop-decl
-invariant-loop-decl l = DeclsRead l.decls l.decl-index l.names

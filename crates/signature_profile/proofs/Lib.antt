@@ -1,0 +1,5 @@
+pub mod Lists
+pub mod Named
+pub mod Members
+pub mod Shapes
+pub mod Signatures

@@ -1,0 +1,4 @@
+pub mod Shape
+pub mod Parentheses
+pub mod Profile
+pub mod WellNamed
