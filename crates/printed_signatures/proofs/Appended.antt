@@ -43,12 +43,12 @@ pub end_of_name : (b : ℕ) → is_end b ≡ true → ends_name b ≡ true
 end_of_name b e =
     let P : ℕ → Type 0 = λ b. ends_name b ≡ true in
     or_cases (is_stop b) (b == 63) e (λ s.
-        or_cases (b == 32 || b == 10 || b == 41 || b == 93) (b == 44) s (λ r.
-            or_cases (b == 32 || b == 10 || b == 41) (b == 93) r (λ q.
-                or_cases (b == 32 || b == 10) (b == 41) q (λ p. or_cases (b == 32) (b == 10) p (λ t. subst P (sym (byte_is b 32 t)) refl) (λ t. subst P (sym (byte_is b 10 t)) refl))
-                (λ t. subst P (sym (byte_is b 41 t)) refl))
-            (λ t. subst P (sym (byte_is b 93 t)) refl))
-        (λ t. subst P (sym (byte_is b 44 t)) refl))
+    or_cases (b == 32 || b == 10 || b == 41 || b == 93) (b == 44) s (λ r.
+    or_cases (b == 32 || b == 10 || b == 41) (b == 93) r (λ q.
+    or_cases (b == 32 || b == 10) (b == 41) q (λ p. or_cases (b == 32) (b == 10) p (λ t. subst P (sym (byte_is b 32 t)) refl) (λ t. subst P (sym (byte_is b 10 t)) refl))
+    (λ t. subst P (sym (byte_is b 41 t)) refl))
+    (λ t. subst P (sym (byte_is b 93 t)) refl))
+    (λ t. subst P (sym (byte_is b 44 t)) refl))
     (λ t. subst P (sym (byte_is b 63 t)) refl)
 
 pub end_of_number : (b : ℕ) → is_end b ≡ true → (nat_lt b 128 && not (is_ascii_digit b)) ≡ true
@@ -78,5 +78,5 @@ module _ (by : List Piece) (begins : (b : ℕ) → is_stop (first_byte by b) ≡
   joined_apart (r ∷ s ∷ rs) h b e =
       let behind = joined by (s ∷ rs) in
       apart_append (r ++ by) behind b
-          (apart_append r by (first_byte behind b) (h.0 (first_byte by (first_byte behind b)) (begins (first_byte behind b))) (alone (first_byte behind b)))
-          (joined_apart (s ∷ rs) h.1 b e)
+      (apart_append r by (first_byte behind b) (h.0 (first_byte by (first_byte behind b)) (begins (first_byte behind b))) (alone (first_byte behind b)))
+      (joined_apart (s ∷ rs) h.1 b e)

@@ -285,11 +285,11 @@ module _ (file last : ℕ) where
       (decl.decl (from file from_here e) (notes_at ts notes.annotations) b', grammar.declaration texts body, l, λ i. decl.decl nowhere (same i) (is i))
 
   none_read : (depth : ℕ) → PartsRead depth decl.no_parts
-  none_read depth before ts rest e new = 
+  none_read depth before ts rest e new =
       let (x, l) = subst (λ rest. (x : grammar.Parts file last before before ts rest) × (parts_open x ≤ 0)) e (grammar.no_part, omega arith) in (before, x, l, sym (append_parts-none (unplaced_parts before)))
 
   no_interface_read : (depth : ℕ) → InterfacePartsRead depth decl.no_parts
-  no_interface_read depth before ts rest e new = 
+  no_interface_read depth before ts rest e new =
       let (x, l) = subst (λ rest. (x : grammar.InterfaceParts file last before before ts rest) × (interface_parts_open x ≤ 0)) e (grammar.no_interface_part, omega arith) in (before, x, l, sym (append_parts-none (unplaced_parts before)))
 
   inner_read : (depth : ℕ) (d : PlainDecl) (parts : PlainParts) → AreParts (decl.inner d parts) → DeclRead depth d → PartsRead depth parts → PartsRead depth (decl.inner d parts)
@@ -347,7 +347,7 @@ module _ (file last : ℕ) where
 
   -- behind the declarations `before`
   file_read : (ds : PlainDecls) → AreWritable ds → (before : PlainDecls) (ts : List Token) → FitsLines (all_lines ds) ts [] → (all : PlainDecls) × (x : grammar.File file last before all ts) × (file_open x ≤ decls_nesting ds) × (unplaced all ≡ append_decls (unplaced before) (unplaced ds))
-  file_read decl.no_decls h before ts e = 
+  file_read decl.no_decls h before ts e =
       let (x, l) = subst (λ ts. (x : grammar.File file last before before ts) × (file_open x ≤ 0)) (sym e) (grammar.end_of_file, omega arith) in (before, x, l, sym (append_decls-none (unplaced before)))
   file_read (decl.more_decls d ds) h before ts f =
       let (mid, a, b) = lines_split (decl_lines 0 d) (all_lines ds) ts [] f in

@@ -106,8 +106,8 @@ either_parameters false p q h i = i refl
 pub with_positional : (p : Parameters) (t : PlainTy) (n : Option (List ℕ)) → AreParametersSoFar p → IsType t → IsParameterName n → AreParametersSoFar (and_positional p t n)
 with_positional p t n h i j =
     either_parameters (no_arg p.optional && no_rest_yet p.rest) _ _
-        (λ e. record { required = arguments_and p.required t n h.required i j; optional = h.optional; rest = h.rest; trailing = h.trailing; order = h.order; keys = h.keys })
-        (λ e. record { required = h.required; optional = h.optional; rest = h.rest; trailing = arguments_and p.trailing t n h.trailing i j; order = inr e; keys = h.keys })
+    (λ e. record { required = arguments_and p.required t n h.required i j; optional = h.optional; rest = h.rest; trailing = h.trailing; order = h.order; keys = h.keys })
+    (λ e. record { required = h.required; optional = h.optional; rest = h.rest; trailing = arguments_and p.trailing t n h.trailing i j; order = inr e; keys = h.keys })
 
 takes_no_trailing : (p : Parameters) → takes_optional p ≡ true → no_arg p.trailing ≡ true
 takes_no_trailing p e = and_left (no_arg p.trailing) _ (and_right (no_rest_yet p.rest) _ e)

@@ -50,9 +50,13 @@ mixin_apart _ ps b e h = ((refl, name_rest _ refl, λ h. absurd (omega (arith, h
 pub applied_apart : (u : Use) (t : PlainTy) → IsApplied u t → (b : ℕ) → is_end b ≡ true → Apart (type_pieces t) b
 applied_apart u (plain.name n plain.no_tys) h b e = apart_append (name_pieces n) [] b (name_apart u n h.0 b (end_of_name b e)) tt
 applied_apart u (plain.name n (plain.more_tys t ts)) h b e =
-    apart_append (name_pieces n) (arguments_pieces (plain.more_tys t ts)) b (name_apart u n h.0 91 refl)
-        (mark_is mark.OpenSquare, tt, refl, apart_append (joined comma (type_pieces t ∷ types_at whole ts)) (sign mark.CloseSquare ∷ []) b
-            (by_commas (type_pieces t ∷ types_at whole ts) ((λ c f. type_apart t h.1.0 c (stop_ends t c f)), types_apart whole ts h.1.1) 93 refl) (mark_is mark.CloseSquare, tt, refl, tt))
+    apart_append (name_pieces n) (arguments_pieces (plain.more_tys t ts)) b (name_apart u n h.0 91 refl) (
+      mark_is mark.OpenSquare,
+      tt,
+      refl,
+      apart_append (joined comma (type_pieces t ∷ types_at whole ts)) (sign mark.CloseSquare ∷ []) b
+          (by_commas (type_pieces t ∷ types_at whole ts) ((λ c f. type_apart t h.1.0 c (stop_ends t c f)), types_apart whole ts h.1.1) 93 refl) (mark_is mark.CloseSquare, tt, refl, tt),
+    )
 applied_apart u (plain.single n) h b e = absurd h
 applied_apart u (plain.opt t) h b e = absurd h
 applied_apart u (plain.union ts) h b e = absurd h
@@ -106,8 +110,8 @@ parameters_rows (p ∷ ps) h = (row, parameters_rows ps h.3)
         let before = where_set p.unchecked (keyword a_keyword.Unchecked ∷ blank ∷ []) in
         let f = stop_is_end b e in
         apart_append (before ++ variance_pieces p.variance) (word p.name ∷ bound_pieces p.bound) b
-            (apart_append before (variance_pieces p.variance) _ (unchecked_apart p.unchecked _) (variance_apart p.variance _))
-            (upper_apart p.name h.0 (bound_pieces p.bound) b (bound_begins p.bound b f) (bound_apart p.bound h.1 b f))
+        (apart_append before (variance_pieces p.variance) _ (unchecked_apart p.unchecked _) (variance_apart p.variance _))
+        (upper_apart p.name h.0 (bound_pieces p.bound) b (bound_begins p.bound b f) (bound_apart p.bound h.1 b f))
 
 pub parameters_apart : (ps : List PlainParam) → AreParameters ps → (b : ℕ) → Apart (parameters_pieces ps) b
 parameters_apart [] h b = tt
@@ -144,23 +148,23 @@ method_member v single w ms n o =
     let overloads = joined (blank ∷ sign mark.Bar ∷ blank ∷ []) (map overload_pieces ms) in
     let before = vis_before v ++ keyword a_keyword.Def ∷ blank ∷ self_before single in
     apart_append (before ++ method_pieces w) (sign mark.Colon ∷ blank ∷ overloads) 10
-        (apart_append before (method_pieces w) 58
-            (apart_append (vis_before v) (keyword a_keyword.Def ∷ blank ∷ self_before single) _ (vis_before_apart v _) (keyword_apart a_keyword.Def (blank ∷ self_before single) _ refl (self_before_apart single _)))
-            (method_apart w n 58 refl))
-        (mark_is mark.Colon, tt, refl, by_marks mark.Bar refl (map overload_pieces ms) (overloads_rows ms (some_overloads ms o)) 10 refl)
+    (apart_append before (method_pieces w) 58
+    (apart_append (vis_before v) (keyword a_keyword.Def ∷ blank ∷ self_before single) _ (vis_before_apart v _) (keyword_apart a_keyword.Def (blank ∷ self_before single) _ refl (self_before_apart single _)))
+    (method_apart w n 58 refl))
+    (mark_is mark.Colon, tt, refl, by_marks mark.Bar refl (map overload_pieces ms) (overloads_rows ms (some_overloads ms o)) 10 refl)
 
 pub member_apart : (m : PlainMember) → IsMember m → Apart (member_pieces m) 10
 member_apart (method v single w ms) h = method_member v single w ms h.0 h.1
 member_apart (attr v k w t) h =
     apart_append (vis_before v) (tok token.Ident (attribute_text k) ∷ blank ∷ word w ∷ sign mark.Colon ∷ blank ∷ type_pieces t) 10 (vis_before_apart v _)
-        (attribute_apart k (blank ∷ word w ∷ sign mark.Colon ∷ blank ∷ type_pieces t) 10 refl (lower_apart w h.0 (sign mark.Colon ∷ blank ∷ type_pieces t) 10 refl (mark_is mark.Colon, tt, refl, type_apart t h.1 10 (stop_ends t 10 refl))))
+    (attribute_apart k (blank ∷ word w ∷ sign mark.Colon ∷ blank ∷ type_pieces t) 10 refl (lower_apart w h.0 (sign mark.Colon ∷ blank ∷ type_pieces t) 10 refl (mark_is mark.Colon, tt, refl, type_apart t h.1 10 (stop_ends t 10 refl))))
 member_apart (mixin k t) h = mixin_apart k (blank ∷ type_pieces t) 10 refl (applied_apart of_class t h 10 refl)
 member_apart (alias new old) h =
     apart_append (keyword a_keyword.Alias ∷ blank ∷ method_pieces new) (blank ∷ method_pieces old) 10
-        (keyword_apart a_keyword.Alias (blank ∷ method_pieces new) 32 refl (method_apart new h.0 32 refl)) (method_apart old h.1 10 refl)
+    (keyword_apart a_keyword.Alias (blank ∷ method_pieces new) 32 refl (method_apart new h.0 32 refl)) (method_apart old h.1 10 refl)
 member_apart (ivar single w t) h =
     apart_append (self_before single) (tok token.Ivar (64 ∷ w) ∷ sign mark.Colon ∷ blank ∷ type_pieces t) 10 (self_before_apart single _)
-        ((refl, h.0), tt, refl, (mark_is mark.Colon, tt, refl, type_apart t h.1 10 (stop_ends t 10 refl)))
+    ((refl, h.0), tt, refl, (mark_is mark.Colon, tt, refl, type_apart t h.1 10 (stop_ends t 10 refl)))
 member_apart (section v) h = vis_apart v [] 10 refl tt
 
 pub interface_member_apart : (m : PlainMember) → IsInterfaceMember m → Apart (member_pieces m) 10
@@ -220,23 +224,23 @@ pub heading_apart : (b : PlainBody) → IsBody b → Apart (heading b) 10
 heading_apart (decl.class n ps t parts) h =
     let next = first_byte (parent_pieces t) 10 in
     apart_append (keyword a_keyword.Class ∷ blank ∷ name_pieces n ++ parameters_pieces ps) (parent_pieces t) 10
-        (apart_append (keyword a_keyword.Class ∷ blank ∷ name_pieces n) (parameters_pieces ps) next
-            (keyword_apart a_keyword.Class (blank ∷ name_pieces n) _ refl (name_apart of_class n h.0 _ (parameters_begin ps next (parent_begins t)))) (parameters_apart ps h.1 next))
-        (parent_apart t h.2)
+    (apart_append (keyword a_keyword.Class ∷ blank ∷ name_pieces n) (parameters_pieces ps) next
+    (keyword_apart a_keyword.Class (blank ∷ name_pieces n) _ refl (name_apart of_class n h.0 _ (parameters_begin ps next (parent_begins t)))) (parameters_apart ps h.1 next))
+    (parent_apart t h.2)
 heading_apart (decl.module n ps ts parts) h =
     let next = first_byte (selves_pieces ts) 10 in
     apart_append (keyword a_keyword.Module ∷ blank ∷ name_pieces n ++ parameters_pieces ps) (selves_pieces ts) 10
-        (apart_append (keyword a_keyword.Module ∷ blank ∷ name_pieces n) (parameters_pieces ps) next
-            (keyword_apart a_keyword.Module (blank ∷ name_pieces n) _ refl (name_apart of_class n h.0 _ (parameters_begin ps next (selves_begin ts)))) (parameters_apart ps h.1 next))
-        (selves_apart ts h.2)
+    (apart_append (keyword a_keyword.Module ∷ blank ∷ name_pieces n) (parameters_pieces ps) next
+    (keyword_apart a_keyword.Module (blank ∷ name_pieces n) _ refl (name_apart of_class n h.0 _ (parameters_begin ps next (selves_begin ts)))) (parameters_apart ps h.1 next))
+    (selves_apart ts h.2)
 heading_apart (decl.iface n ps parts) h =
     apart_append (keyword a_keyword.Interface ∷ blank ∷ name_pieces n) (parameters_pieces ps) 10
-        (keyword_apart a_keyword.Interface (blank ∷ name_pieces n) _ refl (name_apart of_interface n h.0 _ (parameters_begin ps 10 refl))) (parameters_apart ps h.1 10)
+    (keyword_apart a_keyword.Interface (blank ∷ name_pieces n) _ refl (name_apart of_interface n h.0 _ (parameters_begin ps 10 refl))) (parameters_apart ps h.1 10)
 heading_apart (decl.alias n ps t) h =
     apart_append (keyword a_keyword.Type ∷ blank ∷ name_pieces n ++ parameters_pieces ps) (blank ∷ sign mark.Equals ∷ blank ∷ type_pieces t) 10
-        (apart_append (keyword a_keyword.Type ∷ blank ∷ name_pieces n) (parameters_pieces ps) 32
-            (keyword_apart a_keyword.Type (blank ∷ name_pieces n) _ refl (name_apart of_alias n h.0 _ (parameters_begin ps 32 refl))) (parameters_apart ps h.1 32))
-        (mark_is mark.Equals, tt, refl, type_apart t h.2 10 (stop_ends t 10 refl))
+    (apart_append (keyword a_keyword.Type ∷ blank ∷ name_pieces n) (parameters_pieces ps) 32
+    (keyword_apart a_keyword.Type (blank ∷ name_pieces n) _ refl (name_apart of_alias n h.0 _ (parameters_begin ps 32 refl))) (parameters_apart ps h.1 32))
+    (mark_is mark.Equals, tt, refl, type_apart t h.2 10 (stop_ends t 10 refl))
 heading_apart (decl.const n t) h = apart_append (name_pieces n) (sign mark.Colon ∷ blank ∷ type_pieces t) 10 (name_apart of_class n h.0 58 refl) (mark_is mark.Colon, tt, refl, type_apart t h.1 10 (stop_ends t 10 refl))
 
 pub annotation_apart : (w : List ℕ) → Repeated (IsCharacter is_note_character) w → Apart (annotation_piece w ∷ []) 10

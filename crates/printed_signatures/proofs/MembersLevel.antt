@@ -32,7 +32,7 @@ level_applied u (plain.name n plain.no_tys) h = level_append (level_name n) leve
 level_applied u (plain.name n (plain.more_tys t ts)) h =
     let k = max (nesting t) (nestings whole ts) in
     level_append (level_name n)
-        (square (level_joined comma (type_pieces t ∷ types_at whole ts) k level_comma (level_more (nesting t) k (omega arith) (level_type t h.1.0), levels_more (types_at whole ts) (nestings whole ts) k (omega arith) (levels_types whole ts h.1.1))))
+    (square (level_joined comma (type_pieces t ∷ types_at whole ts) k level_comma (level_more (nesting t) k (omega arith) (level_type t h.1.0), levels_more (types_at whole ts) (nestings whole ts) k (omega arith) (levels_types whole ts h.1.1))))
 level_applied u _ h = absurd h
 
 level_bound_type : (t : PlainTy) → IsBoundType t → Level (type_pieces t) (nesting t)
@@ -55,9 +55,10 @@ level_unchecked false = level_none
 levels_parameters : (ps : List PlainParam) → AreParameters ps → Levels (map parameter_pieces ps) (bounds_nesting ps)
 levels_parameters [] h = tt
 levels_parameters (p ∷ ps) h =
-    let k = max (option_nesting p.bound) (bounds_nesting ps) in
-    (level_append (level_append (level_unchecked p.unchecked) (level_variance p.variance)) (level_word p.name (level_more (option_nesting p.bound) k (omega arith) (level_bound p.bound h.1))),
-     levels_more (map parameter_pieces ps) (bounds_nesting ps) k (omega arith) (levels_parameters ps h.3))
+    let k = max (option_nesting p.bound) (bounds_nesting ps) in (
+      level_append (level_append (level_unchecked p.unchecked) (level_variance p.variance)) (level_word p.name (level_more (option_nesting p.bound) k (omega arith) (level_bound p.bound h.1))),
+      levels_more (map parameter_pieces ps) (bounds_nesting ps) k (omega arith) (levels_parameters ps h.3),
+    )
 
 pub level_parameters_of : (ps : List PlainParam) → AreParameters ps → Level (parameters_pieces ps) (params_nesting ps)
 level_parameters_of [] h = level_none
@@ -72,9 +73,10 @@ level_overload_parameters (p ∷ ps) h = level_append (level_parameters_of (p �
 levels_overloads : (ms : List PlainMethod) → AreOverloads ms → Levels (map overload_pieces ms) (overloads_nesting ms)
 levels_overloads [] h = tt
 levels_overloads (m ∷ ms) h =
-    let k = max (max (params_nesting m.params) (function_nesting m.fun)) (overloads_nesting ms) in
-    (level_append (level_more (params_nesting m.params) k (omega arith) (level_overload_parameters m.params h.0)) (level_more (function_nesting m.fun) k (omega arith) (level_function m.fun h.1)),
-     levels_more (map overload_pieces ms) (overloads_nesting ms) k (omega arith) (levels_overloads ms h.2))
+    let k = max (max (params_nesting m.params) (function_nesting m.fun)) (overloads_nesting ms) in (
+      level_append (level_more (params_nesting m.params) k (omega arith) (level_overload_parameters m.params h.0)) (level_more (function_nesting m.fun) k (omega arith) (level_function m.fun h.1)),
+      levels_more (map overload_pieces ms) (overloads_nesting ms) k (omega arith) (levels_overloads ms h.2),
+    )
 
 pub level_overloads : (ms : List PlainMethod) → AreOverloads ms → Level (joined (blank ∷ sign mark.Bar ∷ blank ∷ []) (map overload_pieces ms)) (overloads_nesting ms)
 level_overloads ms h = level_joined (blank ∷ sign mark.Bar ∷ blank ∷ []) (map overload_pieces ms) (overloads_nesting ms) (level_bar mark.Bar refl) (levels_overloads ms h)

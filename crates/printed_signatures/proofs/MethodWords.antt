@@ -143,13 +143,13 @@ OperatorApart b w = Apart (method_pieces w) b
 each_operator : (b : ℕ) → is_behind_name b ≡ true → Each (OperatorApart b) operators
 each_operator b e =
     behind_cases (λ b. Each (OperatorApart b) operators)
-        ((refl, tt, refl, tt), ((refl, tt, refl, tt), ((refl, tt, refl, tt), ((refl, tt, refl, tt), ((refl, tt, refl, tt), ((refl, tt, refl, (refl, tt, refl, tt)), ((refl, tt, refl, tt), ((refl, tt, refl, (refl, tt, refl, tt)), ((refl, tt, refl, tt), ((refl, tt, refl, (refl, tt, refl, tt)), ((refl, tt, refl, (refl, tt, refl, (refl, tt, refl, tt))), ((refl, tt, refl, (refl, tt, refl, tt)), ((refl, tt, refl, (refl, tt, refl, tt)), ((refl, tt, refl, (refl, tt, refl, (refl, tt, refl, tt))), ((refl, tt, refl, (refl, tt, refl, tt)), tt)))))))))))))))
-        ((refl, tt, refl, tt), ((refl, tt, refl, tt), ((refl, tt, refl, tt), ((refl, tt, refl, tt), ((refl, tt, refl, tt), ((refl, tt, refl, (refl, tt, refl, tt)), ((refl, tt, refl, tt), ((refl, tt, refl, (refl, tt, refl, tt)), ((refl, tt, refl, tt), ((refl, tt, refl, (refl, tt, refl, tt)), ((refl, tt, refl, (refl, tt, refl, (refl, tt, refl, tt))), ((refl, tt, refl, (refl, tt, refl, tt)), ((refl, tt, refl, (refl, tt, refl, tt)), ((refl, tt, refl, (refl, tt, refl, (refl, tt, refl, tt))), ((refl, tt, refl, (refl, tt, refl, tt)), tt)))))))))))))))
-        ((refl, tt, refl, tt), ((refl, tt, refl, tt), ((refl, tt, refl, tt), ((refl, tt, refl, tt), ((refl, tt, refl, tt), ((refl, tt, refl, (refl, tt, refl, tt)), ((refl, tt, refl, tt), ((refl, tt, refl, (refl, tt, refl, tt)), ((refl, tt, refl, tt), ((refl, tt, refl, (refl, tt, refl, tt)), ((refl, tt, refl, (refl, tt, refl, (refl, tt, refl, tt))), ((refl, tt, refl, (refl, tt, refl, tt)), ((refl, tt, refl, (refl, tt, refl, tt)), ((refl, tt, refl, (refl, tt, refl, (refl, tt, refl, tt))), ((refl, tt, refl, (refl, tt, refl, tt)), tt))))))))))))))) b e
+    ((refl, tt, refl, tt), ((refl, tt, refl, tt), ((refl, tt, refl, tt), ((refl, tt, refl, tt), ((refl, tt, refl, tt), ((refl, tt, refl, (refl, tt, refl, tt)), ((refl, tt, refl, tt), ((refl, tt, refl, (refl, tt, refl, tt)), ((refl, tt, refl, tt), ((refl, tt, refl, (refl, tt, refl, tt)), ((refl, tt, refl, (refl, tt, refl, (refl, tt, refl, tt))), ((refl, tt, refl, (refl, tt, refl, tt)), ((refl, tt, refl, (refl, tt, refl, tt)), ((refl, tt, refl, (refl, tt, refl, (refl, tt, refl, tt))), ((refl, tt, refl, (refl, tt, refl, tt)), tt)))))))))))))))
+    ((refl, tt, refl, tt), ((refl, tt, refl, tt), ((refl, tt, refl, tt), ((refl, tt, refl, tt), ((refl, tt, refl, tt), ((refl, tt, refl, (refl, tt, refl, tt)), ((refl, tt, refl, tt), ((refl, tt, refl, (refl, tt, refl, tt)), ((refl, tt, refl, tt), ((refl, tt, refl, (refl, tt, refl, tt)), ((refl, tt, refl, (refl, tt, refl, (refl, tt, refl, tt))), ((refl, tt, refl, (refl, tt, refl, tt)), ((refl, tt, refl, (refl, tt, refl, tt)), ((refl, tt, refl, (refl, tt, refl, (refl, tt, refl, tt))), ((refl, tt, refl, (refl, tt, refl, tt)), tt)))))))))))))))
+    ((refl, tt, refl, tt), ((refl, tt, refl, tt), ((refl, tt, refl, tt), ((refl, tt, refl, tt), ((refl, tt, refl, tt), ((refl, tt, refl, (refl, tt, refl, tt)), ((refl, tt, refl, tt), ((refl, tt, refl, (refl, tt, refl, tt)), ((refl, tt, refl, tt), ((refl, tt, refl, (refl, tt, refl, tt)), ((refl, tt, refl, (refl, tt, refl, (refl, tt, refl, tt))), ((refl, tt, refl, (refl, tt, refl, tt)), ((refl, tt, refl, (refl, tt, refl, tt)), ((refl, tt, refl, (refl, tt, refl, (refl, tt, refl, tt))), ((refl, tt, refl, (refl, tt, refl, tt)), tt))))))))))))))) b e
 
 pub method_apart : (w : List ℕ) → IsMethodName w → (b : ℕ) → is_behind_name b ≡ true → Apart (method_pieces w) b
 method_apart w (inl (inl h)) b e = subst (λ ps. Apart ps b) (sym (plain_name w h)) (word_apart w h [] b (behind_cases (λ b. ends_name b ≡ true) refl refl refl b e) tt)
 method_apart w (inl (inr (v, c, h, f, g))) b e =
     subst (λ w. Apart (method_pieces w) b) (sym g) (subst (λ ps. Apart ps b) (sym (ended_name v c h f))
-        (word_apart v h (tok token.Mark (c ∷ []) ∷ []) b (ending_cases (λ c. ends_name c ≡ true) refl refl refl c f) (ending_cases (λ c. Apart (tok token.Mark (c ∷ []) ∷ []) b) (refl, tt, refl, tt) (refl, tt, refl, tt) (refl, tt, refl, tt) c f)))
+    (word_apart v h (tok token.Mark (c ∷ []) ∷ []) b (ending_cases (λ c. ends_name c ≡ true) refl refl refl c f) (ending_cases (λ c. Apart (tok token.Mark (c ∷ []) ∷ []) b) (refl, tt, refl, tt) (refl, tt, refl, tt) (refl, tt, refl, tt) c f)))
 method_apart w (inr h) b e = among_each (OperatorApart b) w operators (each_operator b e) h

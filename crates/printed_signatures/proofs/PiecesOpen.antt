@@ -122,7 +122,7 @@ level_bracket o c {ps = ps} {k = k} opens closes x y e f h = record { past = thr
     deepest : (n : ℕ) → most (surely n) (tok token.Mark x ∷ ps ++ tok token.Mark y ∷ []) ≤ n + (1 + k)
     deepest n =
         let behind_open : most (surely (n + 1)) (ps ++ tok token.Mark y ∷ []) ≤ n + (1 + k) =
-            most_append (surely (n + 1)) ps (tok token.Mark y ∷ []) (n + (1 + k)) (omega (arith, h.most (n + 1))) (subst (λ d. most d (tok token.Mark y ∷ []) ≤ n + (1 + k)) (sym (h.past (n + 1))) (omega (arith, last n))) in
+        most_append (surely (n + 1)) ps (tok token.Mark y ∷ []) (n + (1 + k)) (omega (arith, h.most (n + 1))) (subst (λ d. most d (tok token.Mark y ∷ []) ≤ n + (1 + k)) (sym (h.past (n + 1))) (omega (arith, last n))) in
         subst (λ d. max n (most d (ps ++ tok token.Mark y ∷ [])) ≤ n + (1 + k)) (sym (inner n)) (omega (arith, behind_open))
 
 -- an opening parenthesis directly before a place
@@ -174,8 +174,8 @@ level_parentheses {ps = ps} {k = k} b h = record { past = through; most = deepes
     deepest : (n : ℕ) → most (surely n) (tok token.Mark (40 ∷ []) ∷ ps ++ tok token.Mark (41 ∷ []) ∷ []) ≤ n + (1 + k)
     deepest n =
         let inside : most (fresh n) (ps ++ tok token.Mark (41 ∷ []) ∷ []) ≤ n + (1 + k) =
-            most_append (fresh n) ps (tok token.Mark (41 ∷ []) ∷ []) (n + (1 + k)) (omega (arith, fresh_most n ps b, h.most (n + 1)))
-                (subst (λ d. most d (tok token.Mark (41 ∷ []) ∷ []) ≤ n + (1 + k)) (sym (fresh_past n ps b ∙ h.past (n + 1))) (omega arith)) in
+        most_append (fresh n) ps (tok token.Mark (41 ∷ []) ∷ []) (n + (1 + k)) (omega (arith, fresh_most n ps b, h.most (n + 1)))
+        (subst (λ d. most d (tok token.Mark (41 ∷ []) ∷ []) ≤ n + (1 + k)) (sym (fresh_past n ps b ∙ h.past (n + 1))) (omega arith)) in
         omega (arith, inside)
 
 -- an empty pair of parentheses isn't counted

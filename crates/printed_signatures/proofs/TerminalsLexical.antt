@@ -147,8 +147,8 @@ module _ (bytes : List ℕ) where
   terminals_lexical at before (t ∷ ts) h c =
       bool_cases (is_comment t.kind)
       (λ e. rw e (terminals_lexical t.place.end (behind_comment bytes before t) ts h.1
-          (either_comments (begins_line bytes before t.place.start) (carried bytes before t.place.start ++ drop 1 (text_of bytes t) ∷ []) []
-              (comments_and (carried bytes before t.place.start) (drop 1 (text_of bytes t)) (carried_comments before t.place.start c) (comment_text t.kind (text_of bytes t) e h.0.text)) tt)))
+      (either_comments (begins_line bytes before t.place.start) (carried bytes before t.place.start ++ drop 1 (text_of bytes t) ∷ []) []
+      (comments_and (carried bytes before t.place.start) (drop 1 (text_of bytes t)) (carried_comments before t.place.start c) (comment_text t.kind (text_of bytes t) e h.0.text)) tt)))
       (λ e. rw e (record { kind = kind_lexical t.kind (text_of bytes t) e h.0.text h.0.fit; comments = carried_comments before t.place.start c }, terminals_lexical t.place.end (behind_token t) ts h.1 tt))
 
   -- the terminals of the tokens that bytes divide into

@@ -132,7 +132,7 @@ questioned_apart (plain.inter ts) h r b = apart_append (in_parentheses true (typ
 questioned_apart (plain.opt t) h r b = apart_append (in_parentheses true (type_pieces (plain.opt t))) (sign mark.Question ∷ []) b (parentheses_apart (type_pieces (plain.opt t)) (r 41 refl) 63) (question_last b)
 questioned_apart (plain.fun f) h r b =
     apart_append (in_parentheses (not (is_optional (result_of f))) (type_pieces (plain.fun f))) (sign mark.Question ∷ []) b
-        (either_placed (not (is_optional (result_of f))) (type_pieces (plain.fun f)) 63 (r 41 (stop_ends (plain.fun f) 41 refl)) (λ e. r 63 (optional_ends f 63 e))) (question_last b)
+    (either_placed (not (is_optional (result_of f))) (type_pieces (plain.fun f)) 63 (r 41 (stop_ends (plain.fun f) 41 refl)) (λ e. r 63 (optional_ends f 63 e))) (question_last b)
 questioned_apart (plain.sym w) h r b = symbol_questioned w h b (ends_in_word w) refl
 questioned_apart (plain.name n ts) h r b = apart_append (type_pieces (plain.name n ts)) (sign mark.Question ∷ []) b (r 63 refl) (question_last b)
 questioned_apart (plain.single n) h r b = apart_append (type_pieces (plain.single n)) (sign mark.Question ∷ []) b (r 63 refl) (question_last b)
@@ -162,22 +162,29 @@ mutual
   pub type_apart : (t : PlainTy) → IsType t → (b : ℕ) → may_end t b ≡ true → Apart (type_pieces t) b
   type_apart (plain.name n plain.no_tys) h b e = apart_append (name_pieces n) [] b (name_apart of_type n h.0 b (end_of_name b e)) tt
   type_apart (plain.name n (plain.more_tys t ts)) h b e =
-      apart_append (name_pieces n) (arguments_pieces (plain.more_tys t ts)) b (name_apart of_type n h.0 91 refl)
-          (mark_is mark.OpenSquare, tt, refl, apart_append (joined comma (type_pieces t ∷ types_at whole ts)) (sign mark.CloseSquare ∷ []) b
-              (by_commas (type_pieces t ∷ types_at whole ts) ((λ c f. type_apart t h.1.0 c (stop_ends t c f)), types_apart whole ts h.1.1) 93 refl) (mark_is mark.CloseSquare, tt, refl, tt))
+      apart_append (name_pieces n) (arguments_pieces (plain.more_tys t ts)) b (name_apart of_type n h.0 91 refl) (
+        mark_is mark.OpenSquare,
+        tt,
+        refl,
+        apart_append (joined comma (type_pieces t ∷ types_at whole ts)) (sign mark.CloseSquare ∷ []) b
+            (by_commas (type_pieces t ∷ types_at whole ts) ((λ c f. type_apart t h.1.0 c (stop_ends t c f)), types_apart whole ts h.1.1) 93 refl) (mark_is mark.CloseSquare, tt, refl, tt),
+      )
   type_apart (plain.single n) h b e =
       keyword_apart a_keyword.Singleton (sign mark.Open ∷ name_pieces n ++ sign mark.Close ∷ []) b refl
-          (mark_is mark.Open, tt, refl, apart_append (name_pieces n) (sign mark.Close ∷ []) b (name_apart of_class n h 41 refl) (mark_is mark.Close, tt, refl, tt))
+      (mark_is mark.Open, tt, refl, apart_append (name_pieces n) (sign mark.Close ∷ []) b (name_apart of_class n h 41 refl) (mark_is mark.Close, tt, refl, tt))
   type_apart (plain.opt t) h b e = questioned_apart t h (λ c f. type_apart t h c f) b
   type_apart (plain.union ts) h b e = by_marks mark.Bar refl (types_at in_union ts) (types_apart in_union ts h.1) b e
   type_apart (plain.inter ts) h b e = by_marks mark.Amp refl (types_at in_inter ts) (types_apart in_inter ts h.1) b e
   type_apart (plain.tuple ts) h b e =
       (mark_is mark.OpenSquare, tt, refl, apart_append (joined comma (types_at whole ts)) (sign mark.CloseSquare ∷ []) b (by_commas (types_at whole ts) (types_apart whole ts h) 93 refl) (mark_is mark.CloseSquare, tt, refl, tt))
   type_apart (plain.rec plain.no_keys) h b e = (mark_is mark.OpenBrace, tt, refl, (mark_is mark.CloseBrace, tt, refl, tt))
-  type_apart (plain.rec (plain.more_keys w needed t ks)) h b e =
-      (mark_is mark.OpenBrace, tt, refl,
-       apart_append (joined comma ((key_pieces w needed ++ type_pieces t) ∷ keys_pieces ks)) (blank ∷ sign mark.CloseBrace ∷ []) b
-           (by_commas ((key_pieces w needed ++ type_pieces t) ∷ keys_pieces ks) (key_apart w needed t h.0 (λ c f. type_apart t h.2 c (stop_ends t c f)), keys_apart ks h.3) 32 refl) (mark_is mark.CloseBrace, tt, refl, tt))
+  type_apart (plain.rec (plain.more_keys w needed t ks)) h b e = (
+    mark_is mark.OpenBrace,
+    tt,
+    refl,
+    apart_append (joined comma ((key_pieces w needed ++ type_pieces t) ∷ keys_pieces ks)) (blank ∷ sign mark.CloseBrace ∷ []) b
+        (by_commas ((key_pieces w needed ++ type_pieces t) ∷ keys_pieces ks) (key_apart w needed t h.0 (λ c f. type_apart t h.2 c (stop_ends t c f)), keys_apart ks h.3) 32 refl) (mark_is mark.CloseBrace, tt, refl, tt),
+  )
   type_apart (plain.fun f) h b e = (mark_is mark.Caret, tt, refl, function_apart f h b e)
   type_apart (plain.int n) h b e = (integer_is n h, integer_fits n h, end_of_number b e, tt)
   type_apart (plain.str w) h b e = (string_is w h, tt, refl, tt)
@@ -197,16 +204,19 @@ mutual
   function_apart (plain.function required optional more trailing keys key_more blk t) h b e =
       let rows = arguments [] required ++ arguments (sign mark.Question ∷ []) optional ++ rest_of (sign mark.Star ∷ []) more ++ arguments [] trailing ++ keys_pieces keys ++ rest_of (sign mark.DoubleStar ∷ []) key_more in
       let listed : Rows rows =
-          rows_append _ (rest_of (sign mark.DoubleStar ∷ []) key_more)
-              (rows_append _ (keys_pieces keys)
-                  (rows_append _ (arguments [] trailing)
-                      (rows_append _ (rest_of (sign mark.Star ∷ []) more)
-                          (rows_append (arguments [] required) (arguments (sign mark.Question ∷ []) optional) (plain_arguments required h.0) (optional_arguments optional h.1)) (starred more h.2))
-                      (plain_arguments trailing h.3)) (keys_apart keys h.5)) (double_starred key_more h.6) in
-      (mark_is mark.Open, tt, refl,
-       apart_append (joined comma rows ++ sign mark.Close ∷ block_pieces blk) (blank ∷ sign mark.Arrow ∷ blank ∷ placed in_result t (type_pieces t)) b
-           (apart_append (joined comma rows) (sign mark.Close ∷ block_pieces blk) 32 (by_commas rows listed 41 refl) (mark_is mark.Close, tt, refl, block_apart blk h.7))
-           (mark_is mark.Arrow, tt, refl, result_apart t (λ b e. type_apart t h.8 b e) b e))
+      rows_append _ (rest_of (sign mark.DoubleStar ∷ []) key_more)
+      (rows_append _ (keys_pieces keys)
+      (rows_append _ (arguments [] trailing)
+      (rows_append _ (rest_of (sign mark.Star ∷ []) more)
+      (rows_append (arguments [] required) (arguments (sign mark.Question ∷ []) optional) (plain_arguments required h.0) (optional_arguments optional h.1)) (starred more h.2))
+      (plain_arguments trailing h.3)) (keys_apart keys h.5)) (double_starred key_more h.6) in (
+        mark_is mark.Open,
+        tt,
+        refl,
+        apart_append (joined comma rows ++ sign mark.Close ∷ block_pieces blk) (blank ∷ sign mark.Arrow ∷ blank ∷ placed in_result t (type_pieces t)) b
+            (apart_append (joined comma rows) (sign mark.Close ∷ block_pieces blk) 32 (by_commas rows listed 41 refl) (mark_is mark.Close, tt, refl, block_apart blk h.7))
+            (mark_is mark.Arrow, tt, refl, result_apart t (λ b e. type_apart t h.8 b e) b e),
+      )
 
   plain_arguments : (ts : PlainArgs) → AreArguments ts → Rows (arguments [] ts)
   plain_arguments plain.no_args h = tt
@@ -228,6 +238,14 @@ mutual
   block_apart plain.no_block h = tt
   block_apart (plain.block true f) h =
       (mark_is mark.OpenBrace, tt, refl, apart_append (function_pieces f) (blank ∷ sign mark.CloseBrace ∷ []) 32 (function_apart f h.0 32 (stop_ends (plain.fun f) 32 refl)) (mark_is mark.CloseBrace, tt, refl, tt))
-  block_apart (plain.block false f) h =
-      (mark_is mark.Question, tt, refl, (mark_is mark.OpenBrace, tt, refl,
-       apart_append (function_pieces f) (blank ∷ sign mark.CloseBrace ∷ []) 32 (function_apart f h.0 32 (stop_ends (plain.fun f) 32 refl)) (mark_is mark.CloseBrace, tt, refl, tt)))
+  block_apart (plain.block false f) h = (
+    mark_is mark.Question,
+    tt,
+    refl,
+    (
+      mark_is mark.OpenBrace,
+      tt,
+      refl,
+      apart_append (function_pieces f) (blank ∷ sign mark.CloseBrace ∷ []) 32 (function_apart f h.0 32 (stop_ends (plain.fun f) 32 refl)) (mark_is mark.CloseBrace, tt, refl, tt),
+    ),
+  )

@@ -50,7 +50,7 @@ word_quiet [] = ident_quiet []
 word_quiet (b ∷ []) = either_quiet (is_ascii_uppercase b) token.Upper _ (b ∷ []) (refl, refl) (either_quiet (b == 95) token.Ident token.Ident (b ∷ []) (ident_quiet (b ∷ [])) (ident_quiet (b ∷ [])))
 word_quiet (b ∷ c ∷ w) =
     either_quiet (is_ascii_uppercase b) token.Upper _ (b ∷ c ∷ w) (refl, refl)
-        (either_quiet (b == 95) _ token.Ident (b ∷ c ∷ w) (either_quiet (is_ascii_uppercase c) token.IfaceName token.Ident (b ∷ c ∷ w) (refl, refl) (ident_quiet (b ∷ c ∷ w))) (ident_quiet (b ∷ c ∷ w)))
+    (either_quiet (b == 95) _ token.Ident (b ∷ c ∷ w) (either_quiet (is_ascii_uppercase c) token.IfaceName token.Ident (b ∷ c ∷ w) (refl, refl) (ident_quiet (b ∷ c ∷ w))) (ident_quiet (b ∷ c ∷ w)))
 
 pub level_word : (w : List ℕ) {ps : List Piece} {k : ℕ} → Level ps k → Level (word w ∷ ps) k
 level_word w h = level_token (word_token w) w (word_quiet w).0 h
@@ -246,7 +246,7 @@ mutual
   level_type (plain.name n (plain.more_tys t ts)) h =
       let k = max (nesting t) (nestings whole ts) in
       level_append (level_name n)
-          (square (level_joined comma (type_pieces t ∷ types_at whole ts) k level_comma (level_more (nesting t) k (omega arith) (level_type t h.1.0), levels_more (types_at whole ts) (nestings whole ts) k (omega arith) (levels_types whole ts h.1.1))))
+      (square (level_joined comma (type_pieces t ∷ types_at whole ts) k level_comma (level_more (nesting t) k (omega arith) (level_type t h.1.0), levels_more (types_at whole ts) (nestings whole ts) k (omega arith) (levels_types whole ts h.1.1))))
   level_type (plain.single n) h = level_keyword a_keyword.Singleton (level_parentheses {k = 0} (begun_name of_class n h) (level_name n))
   level_type (plain.opt t) h = level_append (level_placed (needs_parentheses before_question t) (type_pieces t) (nesting t) (begun t h) (level_type t h)) (level_question t)
   level_type (plain.union ts) h = level_joined (blank ∷ sign mark.Bar ∷ blank ∷ []) (types_at in_union ts) (nestings in_union ts) (level_bar mark.Bar refl) (levels_types in_union ts h.1)
@@ -256,7 +256,7 @@ mutual
   level_type (plain.rec (plain.more_keys w needed t ks)) h =
       let k = max (nesting t) (keys_nesting ks) in
       brace_spaced (joined comma ((key_pieces w needed ++ type_pieces t) ∷ keys_pieces ks)) k (level_joined comma ((key_pieces w needed ++ type_pieces t) ∷ keys_pieces ks) k level_comma
-          (level_append (level_key w needed) (level_more (nesting t) k (omega arith) (level_type t h.2)), levels_more (keys_pieces ks) (keys_nesting ks) k (omega arith) (levels_keys ks h.3)))
+      (level_append (level_key w needed) (level_more (nesting t) k (omega arith) (level_type t h.2)), levels_more (keys_pieces ks) (keys_nesting ks) k (omega arith) (levels_keys ks h.3)))
   level_type (plain.fun f) h = level_token token.Mark _ refl (level_function f h)
   level_type (plain.int n) h = level_token token.Int _ refl level_none
   level_type (plain.str w) h = level_token token.Str _ refl level_none
@@ -282,30 +282,30 @@ mutual
       let k = max (listed none inside) (max (block_nesting blk) (around (needs_parentheses in_result t) (nesting t))) in
       let rows = rows_of required optional more trailing keys key_more in
       let begins : AllBegun rows =
-          all_begun_append _ (rest_of (sign mark.DoubleStar ∷ []) key_more)
-              (all_begun_append _ (keys_pieces keys)
-                  (all_begun_append _ (arguments [] trailing)
-                      (all_begun_append _ (rest_of (sign mark.Star ∷ []) more)
-                          (all_begun_append (arguments [] required) (arguments (sign mark.Question ∷ []) optional) (begun_arguments [] none_before required h.0) (begun_arguments (sign mark.Question ∷ []) (mark_before mark.Question refl refl) optional h.1))
-                          (begun_rest (sign mark.Star ∷ []) (mark_before mark.Star refl refl) more h.2))
-                      (begun_arguments [] none_before trailing h.3)) (begun_keys keys)) (begun_rest (sign mark.DoubleStar ∷ []) (mark_before mark.DoubleStar refl refl) key_more h.6) in
+      all_begun_append _ (rest_of (sign mark.DoubleStar ∷ []) key_more)
+      (all_begun_append _ (keys_pieces keys)
+      (all_begun_append _ (arguments [] trailing)
+      (all_begun_append _ (rest_of (sign mark.Star ∷ []) more)
+      (all_begun_append (arguments [] required) (arguments (sign mark.Question ∷ []) optional) (begun_arguments [] none_before required h.0) (begun_arguments (sign mark.Question ∷ []) (mark_before mark.Question refl refl) optional h.1))
+      (begun_rest (sign mark.Star ∷ []) (mark_before mark.Star refl refl) more h.2))
+      (begun_arguments [] none_before trailing h.3)) (begun_keys keys)) (begun_rest (sign mark.DoubleStar ∷ []) (mark_before mark.DoubleStar refl refl) key_more h.6) in
       let levels : Levels rows inside =
-          levels_append _ (rest_of (sign mark.DoubleStar ∷ []) key_more) inside
-              (levels_append _ (keys_pieces keys) inside
-                  (levels_append _ (arguments [] trailing) inside
-                      (levels_append _ (rest_of (sign mark.Star ∷ []) more) inside
-                          (levels_append (arguments [] required) (arguments (sign mark.Question ∷ []) optional) inside
-                              (levels_more (arguments [] required) (arguments_nesting required) inside (omega arith) (levels_arguments [] none_before required h.0))
-                              (levels_more (arguments (sign mark.Question ∷ []) optional) (arguments_nesting optional) inside (omega arith) (levels_arguments (sign mark.Question ∷ []) (mark_before mark.Question refl refl) optional h.1)))
-                          (levels_more (rest_of (sign mark.Star ∷ []) more) (rest_nesting more) inside (omega arith) (levels_rest (sign mark.Star ∷ []) (mark_before mark.Star refl refl) more h.2)))
-                      (levels_more (arguments [] trailing) (arguments_nesting trailing) inside (omega arith) (levels_arguments [] none_before trailing h.3)))
-                  (levels_more (keys_pieces keys) (keys_nesting keys) inside (omega arith) (levels_keys keys h.5)))
-              (levels_more (rest_of (sign mark.DoubleStar ∷ []) key_more) (rest_nesting key_more) inside (omega arith) (levels_rest (sign mark.DoubleStar ∷ []) (mark_before mark.DoubleStar refl refl) key_more h.6)) in
+      levels_append _ (rest_of (sign mark.DoubleStar ∷ []) key_more) inside
+      (levels_append _ (keys_pieces keys) inside
+      (levels_append _ (arguments [] trailing) inside
+      (levels_append _ (rest_of (sign mark.Star ∷ []) more) inside
+      (levels_append (arguments [] required) (arguments (sign mark.Question ∷ []) optional) inside
+      (levels_more (arguments [] required) (arguments_nesting required) inside (omega arith) (levels_arguments [] none_before required h.0))
+      (levels_more (arguments (sign mark.Question ∷ []) optional) (arguments_nesting optional) inside (omega arith) (levels_arguments (sign mark.Question ∷ []) (mark_before mark.Question refl refl) optional h.1)))
+      (levels_more (rest_of (sign mark.Star ∷ []) more) (rest_nesting more) inside (omega arith) (levels_rest (sign mark.Star ∷ []) (mark_before mark.Star refl refl) more h.2)))
+      (levels_more (arguments [] trailing) (arguments_nesting trailing) inside (omega arith) (levels_arguments [] none_before trailing h.3)))
+      (levels_more (keys_pieces keys) (keys_nesting keys) inside (omega arith) (levels_keys keys h.5)))
+      (levels_more (rest_of (sign mark.DoubleStar ∷ []) key_more) (rest_nesting key_more) inside (omega arith) (levels_rest (sign mark.DoubleStar ∷ []) (mark_before mark.DoubleStar refl refl) key_more h.6)) in
       let parameters : Level (sign mark.Open ∷ joined comma rows ++ sign mark.Close ∷ []) k =
-          level_more (listed none inside) k (omega arith) (level_parameters none rows inside (no_rows required optional more trailing keys key_more) begins levels) in
+      level_more (listed none inside) k (omega arith) (level_parameters none rows inside (no_rows required optional more trailing keys key_more) begins levels) in
       level_append
-          (behind_closing (sign mark.Open ∷ joined comma rows) (block_pieces blk) (sign mark.Close) k parameters (level_more (block_nesting blk) k (omega arith) (level_block blk h.7)))
-          (level_blank (level_token token.Mark _ refl (level_blank (level_more (around (needs_parentheses in_result t) (nesting t)) k (omega arith) (level_placed (needs_parentheses in_result t) (type_pieces t) (nesting t) (begun t h.8) (level_type t h.8))))))
+      (behind_closing (sign mark.Open ∷ joined comma rows) (block_pieces blk) (sign mark.Close) k parameters (level_more (block_nesting blk) k (omega arith) (level_block blk h.7)))
+      (level_blank (level_token token.Mark _ refl (level_blank (level_more (around (needs_parentheses in_result t) (nesting t)) k (omega arith) (level_placed (needs_parentheses in_result t) (type_pieces t) (nesting t) (begun t h.8) (level_type t h.8))))))
 
   levels_arguments : (before : List Piece) → IsBefore before → (ts : PlainArgs) → AreArguments ts → Levels (arguments before ts) (arguments_nesting ts)
   levels_arguments before i plain.no_args h = tt

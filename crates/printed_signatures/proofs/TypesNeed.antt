@@ -117,7 +117,7 @@ abbrev pub listed_needs : the_listed.Listed → ℕ
 listed_needs l =
     let p = l.parameters in
     listed (no_parameter p.required p.optional p.rest p.trailing p.keys l.key_rest)
-        (max (arguments_nesting p.required) (max (arguments_nesting p.optional) (max (rest_nesting p.rest) (max (arguments_nesting p.trailing) (max (keys_nesting p.keys) (rest_nesting l.key_rest))))))
+    (max (arguments_nesting p.required) (max (arguments_nesting p.optional) (max (rest_nesting p.rest) (max (arguments_nesting p.trailing) (max (keys_nesting p.keys) (rest_nesting l.key_rest))))))
 
 listed_inside : (l : the_listed.Listed) → listed_needs l ≤ 1 + inside_listed l
 listed_inside l = omega (arith, listed_at_most (no_parameter l.parameters.required l.parameters.optional l.parameters.rest l.parameters.trailing l.parameters.keys l.key_rest) (max (arguments_nesting l.parameters.required) (max (arguments_nesting l.parameters.optional) (max (rest_nesting l.parameters.rest) (max (arguments_nesting l.parameters.trailing) (max (keys_nesting l.parameters.keys) (rest_nesting l.key_rest)))))))
@@ -246,7 +246,7 @@ mutual
   pub function_needs : {f : PlainFun} {ts rest : List Token} → Function f ts rest → Opens (function_nesting f) ts rest
   function_needs (function {l = l} {b = b} {t = t} s d e r) =
       fewer (max (listed_needs l) (max (block_nesting b) (around (needs_parentheses in_result t) (nesting t)))) (omega arith)
-          (opens_append (listed_need d) (opens_append (then_token (kind.Mark mark.Arrow) s refl (block_needs e)) (opens_of (type_needs r))))
+      (opens_append (listed_need d) (opens_append (then_token (kind.Mark mark.Arrow) s refl (block_needs e)) (opens_of (type_needs r))))
 
   listed_need : {l : the_listed.Listed} {ts rest : List Token} → Listed l ts rest → Opens (listed_needs l) ts rest
   listed_need {rest = rest} unlisted = opens_none rest

@@ -48,8 +48,8 @@ abbrev mutual
   pub function_nesting : PlainFun → ℕ
   function_nesting (plain.function required optional more trailing keys key_more blk t) =
       max (listed (no_parameter required optional more trailing keys key_more)
-               (max (arguments_nesting required) (max (arguments_nesting optional) (max (rest_nesting more) (max (arguments_nesting trailing) (max (keys_nesting keys) (rest_nesting key_more)))))))
-          (max (block_nesting blk) (around (needs_parentheses result t) (nesting t)))
+      (max (arguments_nesting required) (max (arguments_nesting optional) (max (rest_nesting more) (max (arguments_nesting trailing) (max (keys_nesting keys) (rest_nesting key_more)))))))
+      (max (block_nesting blk) (around (needs_parentheses result t) (nesting t)))
 
   pub arguments_nesting : PlainArgs → ℕ
   arguments_nesting plain.no_args = 0
