@@ -1,3 +1,3 @@
 mod Newlines
-mod Sorting
+pub mod Sorting
 mod Names

@@ -269,13 +269,13 @@ first_or_at d list e (suc k) inside is = inr (k, omega arith, is)
 first_or_later : (d : Diag) (list : List Diag) (e : Diag) → Contains (d ∷ list) e → (d ≡ e) ⊎ Contains list e
 first_or_later d list e has = first_or_at d list e has.0 has.1 has.2
 
-at_first : (d : Diag) (list : List Diag) → Contains (d ∷ list) d
+pub at_first : (d : Diag) (list : List Diag) → Contains (d ∷ list) d
 at_first d list = (0, omega arith, refl)
 
 at_later : (d : Diag) (list : List Diag) (e : Diag) → Contains list e → Contains (d ∷ list) e
 at_later d list e has = (suc has.0, omega (arith, has.1), has.2)
 
-nothing_in : (e : Diag) → Contains [] e → ⊥
+pub nothing_in : (e : Diag) → Contains [] e → ⊥
 nothing_in e has = omega (arith, has.1)
 
 same_first : (d e : Diag) (ds es : List Diag) → AllPairs Before (d ∷ ds) → AllPairs Before (e ∷ es) → (e ≡ d) ⊎ Contains es d → (d ≡ e) ⊎ Contains ds e → d ≡ e
@@ -287,7 +287,7 @@ not_first : (d e : Diag) (ds es : List Diag) → AllPairs Before (d ∷ ds) → 
 not_first d e ds es p first c has (inl is) = absurd (before_irrefl d (subst (Before d) (sym is ∙ sym first) (head_below d ds p c has)))
 not_first d e ds es p first c has (inr later) = later
 
-one_list : (ds es : List Diag) → AllPairs Before ds → AllPairs Before es → SameDiagnostics ds es → ds ≡ es
+pub one_list : (ds es : List Diag) → AllPairs Before ds → AllPairs Before es → SameDiagnostics ds es → ds ≡ es
 one_list [] [] p q same = refl
 one_list [] (e ∷ es) p q same = absurd (nothing_in e ((same e).1 (at_first e es)))
 one_list (d ∷ ds) [] p q same = absurd (nothing_in d ((same d).0 (at_first d ds)))

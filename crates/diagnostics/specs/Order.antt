@@ -37,3 +37,8 @@ IsOrdered list = AllPairs Before list
 -- the two lists have the same diagnostics
 abbrev pub SameDiagnostics : List Diag → List Diag → Type 0
 SameDiagnostics xs ys = (d : Diag) → Contains xs d ↔ Contains ys d
+
+-- the list has the diagnostics that were found, in their order and each once
+pub record IsOrderOf (found list : List Diag) : Type 0 where
+  pub ordered : IsOrdered list
+  pub same : SameDiagnostics found list

@@ -1,4 +1,5 @@
 pub mod OneReading
+pub mod InOrder
 pub mod OneOutcome
 pub mod Added
 pub mod ShownLines

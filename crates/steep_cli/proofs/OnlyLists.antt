@@ -5,6 +5,7 @@ use Rattle.body_check.specs.declared.table.ClassMethods.{ClassMethods}
 use Rattle.sig_model.specs.PlainDecl.{PlainDecls}
 use Rattle.sig_model.specs.declared.diag.Diag.{Diag}
 use Rattle.sig_model.specs.declared.diag.DiagId.TheVariants as id
+use Rattle.diagnostics.specs.Order.{IsOrdered, SameDiagnostics, IsOrderOf}
 use Rattle.signature_profile.specs.Profile.{IsSignature}
 use Rattle.ruby_reader.specs.declared.tree.Program.{Program}
 use Rattle.ruby_reader.specs.PlainLaws.{plain_program}
@@ -33,7 +34,7 @@ module _ (ds : PlainDecls) (bytes : List ℕ) where
       go : (y : List Diag) → RubyLists ds bytes y → y ≡ at_first 3 id.StrictLimit
       go y (ruby_too_large more) = refl
       go y (no_program within none) = absurd (omega arith)
-      go y (bodies within program listed) = absurd (omega arith)
+      go y (bodies within program found order) = absurd (omega arith)
 
   pub only_none : length bytes ≤ limit → AnswersProgram ds bytes None → IsOnly (RubyLists ds bytes) (at_first 3 id.UnsupportedSyntax)
   only_none within none = record { holds = no_program within none; only = λ y other. go y other }
@@ -41,15 +42,18 @@ module _ (ds : PlainDecls) (bytes : List ℕ) where
       go : (y : List Diag) → RubyLists ds bytes y → y ≡ at_first 3 id.UnsupportedSyntax
       go y (ruby_too_large more) = absurd (omega arith)
       go y (no_program also other) = refl
-      go y (bodies {p = p} also program listed) = absurd (none p program)
+      go y (bodies {p = p} also program found order) = absurd (none p program)
 
-  pub only_bodies : (list : List Diag) → length bytes ≤ limit → AnswersProgram ds bytes (Some list) → IsOnly (RubyLists ds bytes) list
-  only_bodies list within found = record { holds = bodies within found.1 found.2.holds; only = λ y other. go y other }
+  pub only_bodies : (found list : List Diag) → length bytes ≤ limit → AnswersProgram ds bytes (Some found) → IsOrderOf found list
+      → ((other : List Diag) → IsOrdered other → SameDiagnostics found other → other ≡ list) → IsOnly (RubyLists ds bytes) list
+  only_bodies found list within answer order one = record { holds = bodies within answer.1 answer.2.holds order; only = λ y other. go y other }
     where
       go : (y : List Diag) → RubyLists ds bytes y → y ≡ list
       go y (ruby_too_large more) = absurd (omega arith)
-      go y (no_program also none) = absurd (none found.0 found.1)
-      go y (bodies {p = q} also program listed) = found.2.only y (subst (λ r. OfProgram 3 (classes_of ds) r y) (found.3 q program) listed)
+      go y (no_program also none) = absurd (none answer.0 answer.1)
+      go y (bodies {p = q} {found = others} also program listed ordered) =
+          let same : others ≡ found = answer.2.only others (subst (λ r. OfProgram 3 (classes_of ds) r others) (answer.3 q program) listed) in
+          one y ordered.ordered (subst (λ ds. SameDiagnostics ds y) same ordered.same)
 
 module _ (signature ruby : List ℕ) where
   pub only_large_signature : limit < length signature → IsOnly (Lists signature ruby) (at_first 2 id.StrictLimit)

@@ -29,7 +29,7 @@ module _ (a b x y : List ℕ) where
   lines_kept (loaded.Text s) loaded.TooLarge list is_x large_y (no_signature within none) = ap (λ t. lines_of (pair a t b []) list) (sym is_x)
   lines_kept (loaded.Text s) loaded.TooLarge list is_x large_y (good_signature within read (ruby_too_large more)) = ap (λ t. lines_of (pair a t b []) list) (sym is_x)
   lines_kept (loaded.Text s) loaded.TooLarge list is_x large_y (good_signature within read (no_program also none)) = absurd (omega arith)
-  lines_kept (loaded.Text s) loaded.TooLarge list is_x large_y (good_signature within read (bodies also program listed)) = absurd (omega arith)
+  lines_kept (loaded.Text s) loaded.TooLarge list is_x large_y (good_signature within read (bodies also program found order)) = absurd (omega arith)
 
   pub only_listed : (signature ruby : Loaded) (list : List Diag) → IsLoaded x signature → IsLoaded y ruby → IsOnly (Lists x y) list
       → IsOnly (IsList a x b y) (listed (pair a (text_of signature) b (text_of ruby)) list)

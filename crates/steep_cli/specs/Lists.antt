@@ -4,6 +4,7 @@ use Rattle.sig_model.specs.PlainDecl.{PlainDecls}
 use Rattle.sig_model.specs.declared.diag.Diag.{Diag}
 use Rattle.sig_model.specs.declared.diag.DiagId.{DiagId}
 use Rattle.sig_model.specs.declared.diag.DiagId.TheVariants as id
+use Rattle.diagnostics.specs.Order.{IsOrderOf}
 use Rattle.signature_profile.specs.Profile.{IsSignature}
 use Rattle.ruby_reader.specs.PlainTree.{PlainProgram}
 use Rattle.ruby_reader.specs.Grammar.{IsRuby}
@@ -26,7 +27,7 @@ pub record IsProgram (ds : PlainDecls) (p : PlainProgram) (bytes : List ℕ) : T
 pub data RubyLists (ds : PlainDecls) (bytes : List ℕ) : List Diag → Type 0 where
   ruby_too_large : limit < length bytes → RubyLists ds bytes (at_first 3 id.StrictLimit)
   no_program : length bytes ≤ limit → ((p : PlainProgram) → IsProgram ds p bytes → ⊥) → RubyLists ds bytes (at_first 3 id.UnsupportedSyntax)
-  bodies : {p : PlainProgram} {list : List Diag} → length bytes ≤ limit → IsProgram ds p bytes → OfProgram 3 (classes_of ds) p list → RubyLists ds bytes list
+  bodies : {p : PlainProgram} {found list : List Diag} → length bytes ≤ limit → IsProgram ds p bytes → OfProgram 3 (classes_of ds) p found → IsOrderOf found list → RubyLists ds bytes list
 
 -- what is listed of both: the signature file's faults come first, and where there are some, nothing is said of the Ruby file
 pub data Lists (signature ruby : List ℕ) : List Diag → Type 0 where

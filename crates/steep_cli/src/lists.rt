@@ -8,6 +8,7 @@ ghost use Rattle.call_outcomes.specs.Loads.{IsLoaded, IsSmall};
 
 use body_check::{check, classes_of};
 use call_outcomes::Loaded;
+use diagnostics::ordered;
 use plain_data::{Many, NoMemory};
 use sig_model::decl::Decl;
 use sig_model::diag::{Diag, DiagId};
@@ -60,7 +61,7 @@ fn text_list(alloc: Global, decls: &[Decl], bytes: &[u8]) -> Result<Many<Diag>, 
     ensures { IfOk result (IsOnly (RubyLists (plain_decls decls.now) bytes.now)) }
 {
     match program_faults(alloc, decls, bytes)? {
-        Some(list) => Ok(list),
+        Some(list) => Ok(ordered(list)),
         None => at_first(alloc, RUBY, DiagId::UnsupportedSyntax),
     }
 }
