@@ -51,7 +51,7 @@ use Rattle.rbs_declarations.specs.declared.state.State.{State}
 use Rattle.rbs_declarations.specs.Operators.{operator_text, is_operator}
 use Rattle.rbs_declarations.specs.Words.{vis_of, attribute_of, mixin_of, method_word, is_joined, extended_at, takes_vis}
 use Rattle.rbs_declarations.specs.Grammar.{is_new_param}
-use Rattle.rbs_declarations.specs.Machine.{Progress, further, whole, before, stuck, first_on, named_on, naming_on, use_of, with_decl, opened, body_of, text_of_self, double_equals, with_equals, and_overload, bounded, and_param, Site, in_file, in_class, in_interface, site_of, mixin_use, place_from, declared, membered, declaration_keyword, mixin_begins, attribute_begins, vis_begins, member_keyword, interface_keyword, keyword_begins, constant_begins, variable_begins, begun_at, begins, ended_frame, no_notes_at, part_begins, then_part, after_class_params, after_module_params, after_alias_params, after_constant, after_heading, params_begin, after_name, name_goes, with_parent, after_parent_name, parent_goes, with_selves, after_self, after_self_name, self_goes, param_named, varied, variance_at, after_unchecked, param_begins, after_param, after_param_name, after_bound_name, bound_goes, bound_first, in_bound, after_bound_singleton, bound_class_closed, bound_class_goes, signed, after_method_name, ending_at, method_ending, operator_ended, operator_begins, operator_at, method_begins, after_def, after_def_self, typed, function_begins, after_overload, after_parameterized, with_method, next_overload, after_function, after_whole, after_final, typed_on, attribute_named, after_attribute_name, after_mixin_name, mixin_goes, visible_attribute, visible_member, after_vis, after_self_word, after_self_dot, after_variable, old_operator, old_begins, after_new, new_operator, new_begins, new_marked, new_marked_if, after_new_word, joined_equals, after_new_equals, after_new_equals_equals, new_operator_ended, old_word_ended, old_operator_ended, step, next, settled}
+use Rattle.rbs_declarations.specs.Machine.{Progress, further, whole, before, stuck, first_on, named_on, naming_on, use_of, with_decl, opened, body_of, text_of_self, double_equals, with_equals, and_overload, bounded, and_param, Site, in_file, in_class, in_interface, site_of, mixin_use, place_from, declared, membered, declaration_keyword, mixin_begins, attribute_begins, vis_begins, member_keyword, interface_keyword, keyword_begins, constant_begins, variable_begins, begun_at, begins, ended_frame, no_notes_at, part_begins, then_part, after_class_params, after_module_params, after_alias_params, after_constant, after_heading, params_begin, after_name, name_goes, with_parent, after_parent_name, parent_goes, with_selves, after_self, after_self_name, self_goes, param_named, varied, variance_at, after_unchecked, param_begins, after_param, after_param_name, after_bound_name, bound_goes, bound_first, in_bound, after_bound_singleton, bound_class_closed, bound_class_goes, signed, after_method_name, ending_at, method_ending, operator_ended, operator_begins, operator_at, method_begins, after_def, after_def_self, typed, function_begins, after_overload, after_parameterized, with_method, next_overload, after_function, after_whole, after_final, typed_on, attribute_named, after_attribute_name, after_mixin_name, mixin_goes, visible_attribute, visible_member, after_vis, after_self_word, after_self_dot, after_variable, old_operator, old_begins, after_new, new_operator, new_begins, new_marked, new_marked_if, after_new_word, joined_equals, after_new_equals, after_new_equals_equals, new_operator_ended, old_word_ended, old_operator_ended, step, next}
 use Rattle.rbs_declarations.specs.Heights.{option_height, params_height, methods_height, member_height, decl_height, body_height, decls_height}
 use Rattle.rbs_declarations.specs.WholeHeights.{whole_height}
 use Rattle.rbs_declarations.specs.Needs.{frames_height, owner_height, purpose_height, phrase_height, focus_height, need}

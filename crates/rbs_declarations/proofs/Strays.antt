@@ -5,7 +5,6 @@ use Rattle.rbs_terminals.specs.declared.token.Spot.{Spot}
 use Rattle.rbs_terminals.specs.declared.token.Kind.TheVariants as kind
 use Rattle.sig_model.specs.declared.ty.TypeName.{TypeName}
 use Rattle.sig_model.specs.declared.decl.MixKind.{MixKind}
-use Rattle.sig_model.specs.PlainTy as plain
 use Rattle.sig_model.specs.PlainTy.{PlainTy, PlainTys}
 use Rattle.sig_model.specs.PlainMember.{PlainParam}
 use Rattle.sig_model.specs.PlainDecl.{PlainDecls}

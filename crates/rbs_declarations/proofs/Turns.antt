@@ -1,5 +1,5 @@
 -- Steps that hand a token on, as it is not the one that may stand here.
-use Rattle.std.proofs.Common.{ℕ, ◌≡◌, refl, sym, subst, List, Bool, true, false, IsTrue, ◌↔◌, None, Some, Result}
+use Rattle.std.proofs.Common.{ℕ, ◌≡◌, refl, List, Bool, true, false, IsTrue, ◌↔◌, None, Some, Result}
 use Rattle.rbs_terminals.specs.declared.token.Mark.TheVariants as mark
 use Rattle.rbs_terminals.specs.declared.token.Keyword.TheVariants as keyword
 use Rattle.rbs_terminals.specs.declared.token.Kind.{Kind}

@@ -1,5 +1,5 @@
 -- No text ends in a member or a heading.
-use Rattle.std.proofs.Common.{ℕ, ◌≡◌, refl, List, Option, None}
+use Rattle.std.proofs.Common.{ℕ, ◌≡◌, refl, List, None}
 use Rattle.sig_model.specs.PlainDecl.{PlainDecls}
 use Rattle.rbs_types.specs.declared.state.State.{State as TypeState}
 use Rattle.rbs_declarations.specs.declared.state.Purpose.{Purpose}

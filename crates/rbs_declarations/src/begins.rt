@@ -17,7 +17,7 @@ use crate::state::{Begun, Focus, Naming, Sort, State};
 use crate::type_names::{no_naming, rooted_naming, upper_naming};
 use crate::wholes::ended;
 use crate::words::{attribute_of, is_keyword, mixin_of, vis_of};
-use plain_data::{Many, NoMemory, Word};
+use plain_data::{Boxed, Many, NoMemory, Word};
 use rbs_terminals::{Keyword, Kind, Mark, Spot, Token};
 use sig_model::decl::{MixKind, Notes};
 use std::alloc::Global;
@@ -241,10 +241,16 @@ fn annotated(notes: Notes, annotation: Word) -> Result<Notes, NoMemory>
 }
 
 /// An annotation, which the notes get.
-fn noted(start: u32, notes: Notes, around: Around, annotation: Word) -> Result<State, Stuck>
+fn noted(
+    alloc: Global,
+    start: u32,
+    notes: Boxed<Notes>,
+    around: Around,
+    annotation: Word,
+) -> Result<State, Stuck>
     ensures { Does (machine.at (focus.Noted (record { start = start; notes = machine.annotated around.file notes annotation })) around.decls around.frames) result }
 {
-    let notes = annotated(notes, annotation)?;
+    let notes = Boxed::new(alloc, annotated(notes.into_inner(), annotation)?)?;
     let begun = Begun { start, notes };
     Ok(at(Focus::Noted { begun }, around))
 }
@@ -266,7 +272,7 @@ fn upper_begins(
 /// What a token from `start` to `end` does behind these notes, where a part may begin.
 pub fn begins(
     alloc: Global,
-    notes: Notes,
+    notes: Boxed<Notes>,
     around: Around,
     kind: Kind,
     start: u32,
@@ -277,7 +283,7 @@ pub fn begins(
 {
     let site = site_of(&around.frames);
     match kind {
-        Kind::Annotation(annotation) => noted(start, notes, around, annotation),
+        Kind::Annotation(annotation) => noted(alloc, start, notes, around, annotation),
         Kind::Keyword(keyword) => {
             keyword_begins(alloc, site, Begun { start, notes }, around, keyword, end)
         }
@@ -288,6 +294,22 @@ pub fn begins(
         Kind::Variable(name) => variable_begins(site, Begun { start, notes }, name, around),
         _ => Err(Stuck::Syntax),
     }
+}
+
+/// What a token from `start` to `end` does behind these notes, which it carries alone.
+fn carrying_begins(
+    alloc: Global,
+    notes: Notes,
+    around: Around,
+    kind: Kind,
+    start: u32,
+    end: u32,
+) -> Result<State, Stuck>
+    ensures { (before : ℕ) → (gap : Gap) → (comments : List (List ℕ))
+        → Does (machine.begins around.file notes around.decls around.frames kind (spot_at before gap start end comments)) result }
+{
+    let notes = Boxed::new(alloc, notes)?;
+    begins(alloc, notes, around, kind, start, end)
 }
 
 /// What an `end` does, which ends the innermost open declaration.
@@ -328,7 +350,7 @@ fn unnoted_begins(alloc: Global, around: Around, token: Token) -> Result<State, 
         comments,
         annotations,
     };
-    begins(alloc, notes, around, kind, start, end)
+    carrying_begins(alloc, notes, around, kind, start, end)
 }
 
 /// What a token does where a part may begin and the innermost open declaration may end.

@@ -11,7 +11,7 @@ ghost use Rattle.rbs_declarations.specs.declared.state.Purpose.TheVariants as pu
 ghost use Rattle.rbs_declarations.specs.Machine as machine;
 ghost use Rattle.rbs_declarations.specs.Does.{Does, Goes};
 
-use crate::around::{Around, at};
+use crate::around::{Around, at, typed_at};
 use crate::begins::then_part;
 use crate::plain::Params;
 use crate::refused::Stuck;
@@ -19,7 +19,7 @@ use crate::state::{Begun, Focus, Heading, Naming, Owner, Purpose, Sort, State};
 use crate::type_names::{NameUse, Progress, naming_on, no_naming, use_of};
 use crate::wholes::{opened, opening};
 use crate::words::is_mark;
-use plain_data::NoMemory;
+use plain_data::{Boxed, NoMemory};
 use rbs_terminals::{Kind, Mark, Spot, Token};
 use rbs_types::{Tall, Talls, start, start_arguments};
 use sig_model::ty::TypeName;
@@ -144,7 +144,7 @@ fn after_alias_params(
                 name,
                 params,
             };
-            Ok(at(Focus::Typed { purpose, inner }, around))
+            typed_at(alloc, purpose, inner, around)
         }
         _ => Err(Stuck::Syntax),
     }
@@ -164,7 +164,7 @@ fn after_constant(
         Kind::Mark(Mark::Colon) => {
             let inner = start(alloc);
             let purpose = Purpose::Constant { begun, name };
-            Ok(at(Focus::Typed { purpose, inner }, around))
+            typed_at(alloc, purpose, inner, around)
         }
         _ => Err(Stuck::Syntax),
     }
@@ -202,7 +202,7 @@ fn params_begin(
     match sort {
         Sort::Constant => Err(Stuck::Syntax),
         sort => {
-            let owner = Owner::Heading { begun, sort, name };
+            let owner = Boxed::new(alloc, Owner::Heading { begun, sort, name })?;
             let done = Params::new(alloc);
             Ok(at(Focus::Param { owner, done }, around))
         }
@@ -351,7 +351,7 @@ fn parent_arguments(
         name,
         params,
     };
-    Ok(at(Focus::Typed { purpose, inner }, around))
+    typed_at(alloc, purpose, inner, around)
 }
 
 /// Behind the name of a superclass.
@@ -527,7 +527,7 @@ fn self_arguments(
         params,
         selves,
     };
-    Ok(at(Focus::Typed { purpose, inner }, around))
+    typed_at(alloc, purpose, inner, around)
 }
 
 /// Behind the name of a self type.

@@ -12,7 +12,7 @@ ghost use Rattle.rbs_declarations.specs.Machine as machine;
 ghost use Rattle.rbs_declarations.specs.Words as words;
 ghost use Rattle.rbs_declarations.specs.Does.{Does, Goes};
 
-use crate::around::{Around, at};
+use crate::around::{Around, at, typed_at};
 use crate::begins::then_part;
 use crate::built::{mixin, section};
 use crate::refused::Stuck;
@@ -74,7 +74,7 @@ pub fn after_attribute_name(
                 name,
             };
             let inner = start(alloc);
-            Ok(at(Focus::Typed { purpose, inner }, around))
+            typed_at(alloc, purpose, inner, around)
         }
         _ => Err(Stuck::Syntax),
     }
@@ -107,7 +107,7 @@ fn mixin_arguments(
 {
     let inner = start_arguments(alloc, name)?;
     let purpose = Purpose::Mixin { begun, kind };
-    Ok(at(Focus::Typed { purpose, inner }, around))
+    typed_at(alloc, purpose, inner, around)
 }
 
 /// What a token does behind a mixin without arguments.
@@ -351,7 +351,7 @@ pub fn after_variable(
                 name,
             };
             let inner = start(alloc);
-            Ok(at(Focus::Typed { purpose, inner }, around))
+            typed_at(alloc, purpose, inner, around)
         }
         _ => Err(Stuck::Syntax),
     }

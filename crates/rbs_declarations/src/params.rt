@@ -7,14 +7,14 @@ ghost use Rattle.rbs_terminals.specs.declared.token.Kind.{Kind};
 ghost use Rattle.rbs_declarations.specs.Machine as machine;
 ghost use Rattle.rbs_declarations.specs.Does.{Does, Goes};
 
-use crate::around::{Around, at};
+use crate::around::{Around, at, typed_at};
 use crate::built::option_of;
 use crate::plain::Params;
 use crate::refused::Stuck;
 use crate::state::{Focus, Naming, Owner, Param, Purpose, State, Step};
 use crate::type_names::{NameUse, Progress, first_on, naming_on, no_naming};
 use crate::words::{is_keyword, is_mark, variance_of};
-use plain_data::NoMemory;
+use plain_data::{Boxed, NoMemory};
 use rbs_terminals::{Keyword, Kind, Mark, Token};
 use rbs_types::{Tall, Talls, start_arguments};
 use sig_model::decl::{TyParam, Variance};
@@ -23,7 +23,7 @@ use std::alloc::Global;
 
 /// Where the name of a parameter must come.
 pub fn param_named(
-    owner: Owner,
+    owner: Boxed<Owner>,
     done: Params,
     unchecked: bool,
     variance: Variance,
@@ -51,7 +51,7 @@ pub fn param_named(
 
 /// Where a variance may come, or the name of a parameter.
 pub fn after_unchecked(
-    owner: Owner,
+    owner: Boxed<Owner>,
     done: Params,
     unchecked: bool,
     around: Around,
@@ -77,7 +77,12 @@ pub fn after_unchecked(
 }
 
 /// Where a parameter must begin.
-pub fn param_begins(owner: Owner, done: Params, around: Around, kind: Kind) -> Result<State, Stuck>
+pub fn param_begins(
+    owner: Boxed<Owner>,
+    done: Params,
+    around: Around,
+    kind: Kind,
+) -> Result<State, Stuck>
     ensures { Does (machine.param_begins around.file owner done around.decls around.frames kind) result }
 {
     if is_keyword(&kind, Keyword::Unchecked) {
@@ -105,7 +110,12 @@ pub fn and_param(done: Params, param: Param, bound: Option<Tall>) -> Result<Para
 }
 
 /// Behind a parameter that is whole, the last of these.
-pub fn after_param(owner: Owner, params: Params, around: Around, kind: Kind) -> Result<State, Stuck>
+pub fn after_param(
+    owner: Boxed<Owner>,
+    params: Params,
+    around: Around,
+    kind: Kind,
+) -> Result<State, Stuck>
     ensures { Does (machine.after_param around.file owner params around.decls around.frames kind) result }
 {
     match kind {
@@ -120,7 +130,7 @@ pub fn after_param(owner: Owner, params: Params, around: Around, kind: Kind) -> 
 
 /// Behind a parameter with this bound, if it has one.
 fn after_bounded(
-    owner: Owner,
+    owner: Boxed<Owner>,
     done: Params,
     param: Param,
     bound: Option<Tall>,
@@ -136,7 +146,7 @@ fn after_bounded(
 /// Behind the name of a parameter.
 pub fn after_param_name(
     alloc: Global,
-    owner: Owner,
+    owner: Boxed<Owner>,
     done: Params,
     param: Param,
     around: Around,
@@ -163,7 +173,7 @@ pub fn after_param_name(
 /// Behind a parameter whose bound is this name.
 fn after_named(
     alloc: Global,
-    owner: Owner,
+    owner: Boxed<Owner>,
     done: Params,
     param: Param,
     name: TypeName,
@@ -179,7 +189,7 @@ fn after_named(
 /// Behind the name of a bound.
 pub fn after_bound_name(
     alloc: Global,
-    owner: Owner,
+    owner: Boxed<Owner>,
     done: Params,
     param: Param,
     name: TypeName,
@@ -191,7 +201,7 @@ pub fn after_bound_name(
     if is_mark(&kind, Mark::OpenSquare) {
         let inner = start_arguments(alloc, name)?;
         let purpose = Purpose::Bound { owner, done, param };
-        Ok(at(Focus::Typed { purpose, inner }, around))
+        typed_at(alloc, purpose, inner, around)
     } else {
         after_named(alloc, owner, done, param, name, around, kind)
     }
@@ -200,7 +210,7 @@ pub fn after_bound_name(
 /// What a token that makes this progress in the name of a bound does.
 fn bound_goes(
     alloc: Global,
-    owner: Owner,
+    owner: Boxed<Owner>,
     done: Params,
     param: Param,
     progress: Progress,
@@ -238,7 +248,7 @@ fn bound_goes(
 /// What a token does where the name of a bound must begin.
 fn bound_begins(
     alloc: Global,
-    owner: Owner,
+    owner: Boxed<Owner>,
     done: Params,
     param: Param,
     name: TypeName,
@@ -254,7 +264,7 @@ fn bound_begins(
 /// Where a bound must begin.
 fn bound_first(
     alloc: Global,
-    owner: Owner,
+    owner: Boxed<Owner>,
     done: Params,
     param: Param,
     name: TypeName,
@@ -273,7 +283,7 @@ fn bound_first(
 /// What a token does in the name of a bound.
 fn bound_goes_on(
     alloc: Global,
-    owner: Owner,
+    owner: Boxed<Owner>,
     done: Params,
     param: Param,
     naming: Naming,
@@ -290,7 +300,7 @@ fn bound_goes_on(
 /// In the name of a bound.
 pub fn in_bound(
     alloc: Global,
-    owner: Owner,
+    owner: Boxed<Owner>,
     done: Params,
     param: Param,
     naming: Naming,
@@ -316,7 +326,7 @@ pub fn in_bound(
 /// Behind `singleton`, as a bound.
 pub fn after_bound_singleton(
     alloc: Global,
-    owner: Owner,
+    owner: Boxed<Owner>,
     done: Params,
     param: Param,
     around: Around,
@@ -343,7 +353,7 @@ pub fn after_bound_singleton(
 
 /// Behind `singleton(` and a name.
 fn bound_class_closed(
-    owner: Owner,
+    owner: Boxed<Owner>,
     done: Params,
     param: Param,
     name: TypeName,
@@ -363,7 +373,7 @@ fn bound_class_closed(
 
 /// What a token that makes this progress in the name behind `singleton(` does.
 fn bound_class_goes(
-    owner: Owner,
+    owner: Boxed<Owner>,
     done: Params,
     param: Param,
     progress: Progress,
@@ -392,7 +402,7 @@ fn bound_class_goes(
 /// In the name behind `singleton(`.
 pub fn in_bound_class(
     alloc: Global,
-    owner: Owner,
+    owner: Boxed<Owner>,
     done: Params,
     param: Param,
     naming: Naming,

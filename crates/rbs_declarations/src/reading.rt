@@ -1,6 +1,6 @@
 //! A reader of declarations within the limits, which takes one token at a time.
 
-ghost use Rattle.std.specs.Prelude.{◌≡◌, ◌≤◌};
+ghost use Rattle.std.specs.Prelude.{◌≡◌, ◌≤◌, IfOk};
 ghost use Rattle.rbs_declarations.specs.Machine as machine;
 ghost use Rattle.rbs_declarations.specs.Needs.{need};
 ghost use Rattle.rbs_declarations.specs.Takes.{Takes, Finishes};
@@ -10,7 +10,7 @@ use crate::refused::Stuck;
 use crate::state::{Focus, State};
 use crate::step;
 use crate::within::is_within;
-use plain_data::Many;
+use plain_data::{Boxed, Many, NoMemory};
 use rbs_terminals::{Kind, Token};
 use rbs_types::{Refused, Stack};
 use sig_model::decl::Decl;
@@ -19,22 +19,22 @@ use std::alloc::Global;
 /// What was read so far of a file, and the byte at which its last token ends, 0 where there is none.
 #[derive(Drop)]
 pub struct Reading {
-    pub state: State,
+    pub state: Boxed<State>,
     pub end: u32,
 }
 
 impl Reading {
-    /// Where nothing was read yet. Takes no memory.
-    pub fn new(alloc: Global) -> Reading
-        ensures state { result.state ≡ machine.start_of_file }
-        ensures end { result.end ≡ 0 }
+    /// Where nothing was read yet.
+    pub fn new(alloc: Global) -> Result<Reading, NoMemory>
+        ensures { IfOk result (λ r. (r.state ≡ machine.start_of_file) × (r.end ≡ 0)) }
     {
         let state = State {
             decls: Decls::new(alloc),
             frames: Stack::new(alloc),
             focus: Focus::Parts,
         };
-        Reading { state, end: 0 }
+        let state = Boxed::new(alloc, state)?;
+        Ok(Reading { state, end: 0 })
     }
 
     /// Takes the next token of the file of this number. What was read before must be within the limit of heights.
@@ -51,9 +51,9 @@ impl Reading {
         let Reading { state, end } = self;
         let past = matches!(token.kind, Kind::PastInteger);
         let token_end = token.spot.end;
-        match step::next(alloc, file, state, token) {
+        match step::advance(alloc, file, state, token) {
             Ok(state) => {
-                if past || !is_within(&state) {
+                if past || !is_within(state.get()) {
                     return Err(Refused::Limit(end));
                 }
                 Ok(Reading {
@@ -75,7 +75,7 @@ impl Reading {
         ensures { Finishes file self.state self.end result }
     {
         let Reading { state, end } = self;
-        match step::finish(alloc, file, end, state)? {
+        match step::finish(alloc, file, end, state.into_inner())? {
             Some(decls) => Ok(decls.into_items()),
             None => Err(Refused::Syntax(end)),
         }

@@ -2,7 +2,7 @@
 
 use crate::operators::Operator;
 use crate::plain::{Decls, Methods, Params, Parts};
-use plain_data::{Many, Word};
+use plain_data::{Boxed, Word};
 use rbs_types::{Stack, Tall, Talls};
 use sig_model::decl::{AttrKind, MixKind, Notes, Variance, Vis};
 use sig_model::ty::TypeName;
@@ -11,7 +11,7 @@ use sig_model::ty::TypeName;
 #[derive(Drop)]
 pub struct Begun {
     pub start: u32,
-    pub notes: Notes,
+    pub notes: Boxed<Notes>,
 }
 
 /// What stands directly before the place inside a name.
@@ -148,7 +148,7 @@ pub enum Purpose {
     },
     /// The arguments of a bound.
     Bound {
-        owner: Owner,
+        owner: Boxed<Owner>,
         done: Params,
         param: Param,
     },
@@ -183,62 +183,62 @@ pub enum Focus {
     },
     /// The bracket or the comma before a type parameter.
     Param {
-        owner: Owner,
+        owner: Boxed<Owner>,
         done: Params,
     },
     /// `unchecked`
     Unchecked {
-        owner: Owner,
+        owner: Boxed<Owner>,
         done: Params,
     },
     /// `out` or `in`
     Varied {
-        owner: Owner,
+        owner: Boxed<Owner>,
         done: Params,
         unchecked: bool,
         variance: Variance,
     },
     /// The name of a type parameter.
     ParamName {
-        owner: Owner,
+        owner: Boxed<Owner>,
         done: Params,
         param: Param,
     },
     /// The name of a bound.
     Bound {
-        owner: Owner,
+        owner: Boxed<Owner>,
         done: Params,
         param: Param,
         naming: Naming,
     },
     /// The name of a bound, which is whole.
     BoundNamed {
-        owner: Owner,
+        owner: Boxed<Owner>,
         done: Params,
         param: Param,
         name: TypeName,
     },
     /// `singleton`, as a bound
     BoundSingleton {
-        owner: Owner,
+        owner: Boxed<Owner>,
         done: Params,
         param: Param,
     },
     /// `singleton(`, and the name
     BoundClass {
-        owner: Owner,
+        owner: Boxed<Owner>,
         done: Params,
         param: Param,
         naming: Naming,
     },
     /// A type parameter that is whole, the last of these.
     Bounded {
-        owner: Owner,
+        owner: Boxed<Owner>,
         params: Params,
     },
     /// The bracket that closes type parameters.
     Parameterized {
-        owner: Owner,
+        owner: Boxed<Owner>,
         params: Params,
     },
     /// The name of a superclass.
@@ -389,8 +389,8 @@ pub enum Focus {
     },
     /// Inside of a type.
     Typed {
-        purpose: Purpose,
-        inner: rbs_types::State,
+        purpose: Boxed<Purpose>,
+        inner: Boxed<rbs_types::State>,
     },
 }
 

@@ -29,7 +29,7 @@ use crate::plain::{Decls, Params};
 use crate::refused::{Stuck, refuse};
 use crate::state::{Begun, Focus, Frame, Purpose, Signature, State};
 use crate::typed::{after_overload, after_parameterized, type_ended, typed_on};
-use plain_data::NoMemory;
+use plain_data::{Boxed, NoMemory};
 use rbs_terminals::Token;
 use rbs_types::Stack;
 use sig_model::ty::TypeName;
@@ -236,28 +236,20 @@ fn in_heading(alloc: Global, focus: Focus, around: Around, token: Token) -> Resu
             params,
             selves,
             naming,
-        } => in_self(
-            alloc,
-            headed(begun, name, params),
-            selves,
-            naming,
-            around,
-            token,
-        ),
+        } => {
+            let headed = headed(begun, name, params);
+            in_self(alloc, headed, selves, naming, around, token)
+        }
         Focus::SelfNamed {
             begun,
             name,
             params,
             selves,
             self_name,
-        } => after_self_name(
-            alloc,
-            headed(begun, name, params),
-            selves,
-            self_name,
-            around,
-            token,
-        ),
+        } => {
+            let headed = headed(begun, name, params);
+            after_self_name(alloc, headed, selves, self_name, around, token)
+        }
         focus => in_params(alloc, focus, around, token),
     }
 }
@@ -305,6 +297,23 @@ pub fn next(alloc: Global, file: u32, state: State, token: Token) -> Result<Stat
     step(alloc, focus, around, token)
 }
 
+/// Takes the next token, as [`next`] does, where the state is in memory of its own.
+///
+/// # Errors
+///
+/// As [`next`].
+pub fn advance(
+    alloc: Global,
+    file: u32,
+    state: Boxed<State>,
+    token: Token,
+) -> Result<Boxed<State>, Stuck>
+    ensures { Does (machine.next file state token) result }
+{
+    let state = next(alloc, file, state.into_inner(), token)?;
+    Ok(Boxed::new(alloc, state)?)
+}
+
 /// The declarations, if no declaration is open.
 fn only_decls(decls: Decls, frames: Stack<Frame>) -> Option<Decls>
     ensures { (file : ℕ) → result ≡ machine.only_decls file decls frames }
@@ -334,8 +343,8 @@ fn whole_file(whole: Result<State, Stuck>) -> Result<Option<Decls>, NoMemory>
 /// The declarations of a text that ends at `end` with a type, if it may.
 fn finish_type(
     alloc: Global,
-    purpose: Purpose,
-    inner: rbs_types::State,
+    purpose: Boxed<Purpose>,
+    inner: Boxed<rbs_types::State>,
     end: u32,
     around: Around,
 ) -> Result<Option<Decls>, NoMemory>

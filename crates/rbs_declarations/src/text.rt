@@ -5,6 +5,7 @@ ghost use Rattle.std.specs.Option.{option_to_list};
 ghost use Rattle.sig_model.specs.PlainDecl.{PlainDecls};
 ghost use Rattle.rbs_declarations.specs.Answers.{Answers};
 ghost use Rattle.rbs_declarations.specs.Limits.{IsWritten};
+ghost use Rattle.rbs_declarations.specs.Machine as machine;
 
 use crate::reading::Reading;
 use plain_data::Many;
@@ -12,6 +13,29 @@ use rbs_terminals::{Terminals, Token};
 use rbs_types::Refused;
 use sig_model::decl::Decl;
 use std::alloc::Global;
+
+/// The declarations that these terminals spell, with `stop` behind them, where nothing was read yet.
+fn read_from(
+    alloc: Global,
+    file: u32,
+    start: Reading,
+    terminals: Terminals,
+    stop: Option<Token>,
+) -> Result<Many<Decl>, Refused>
+    requires state { start.state ≡ machine.start_of_file }
+    requires end { start.end ≡ 0 }
+    ensures { Answers file (terminals.entry ++ option_to_list stop) result }
+{
+    let mut terminals = terminals;
+    let mut reading = start;
+    while let Some(token) = terminals.next()? {
+        reading = reading.take(alloc, file, token)?;
+    }
+    if let Some(token) = stop {
+        reading = reading.take(alloc, file, token)?;
+    }
+    reading.finish(alloc, file)
+}
 
 /// The declarations that the terminals of the file of this number spell, with `stop` behind them: the terminal at which the file stops being
 /// tokens, `Kind::Stray` or `Kind::PastInteger`, where it does. Tokens spell one list of declarations at most.
@@ -30,13 +54,6 @@ pub fn read_file(
     ensures answer { Answers file (terminals.entry ++ option_to_list stop) result }
     ensures once { (ds es : PlainDecls) → IsWritten file ds (terminals.entry ++ option_to_list stop) → IsWritten file es (terminals.entry ++ option_to_list stop) → ds ≡ es }
 {
-    let mut terminals = terminals;
-    let mut reading = Reading::new(alloc);
-    while let Some(token) = terminals.next()? {
-        reading = reading.take(alloc, file, token)?;
-    }
-    if let Some(token) = stop {
-        reading = reading.take(alloc, file, token)?;
-    }
-    reading.finish(alloc, file)
+    let start = Reading::new(alloc)?;
+    read_from(alloc, file, start, terminals, stop)
 }

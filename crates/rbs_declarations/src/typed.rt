@@ -20,16 +20,17 @@ use crate::refused::{Stuck, refuse};
 use crate::state::{Focus, Owner, Param, Purpose, Signature, State};
 use crate::wholes::{declared, membered};
 use crate::words::is_mark;
+use plain_data::Boxed;
 use rbs_terminals::{Kind, Mark, Token};
-use rbs_types::step::{finish, next};
+use rbs_types::step::{advance, finish};
 use rbs_types::{Tall, is_ended, start_function};
 use std::alloc::Global;
 
 /// A token went to a type.
 fn typed(
-    purpose: Purpose,
+    purpose: Boxed<Purpose>,
     around: Around,
-    stepped: Result<rbs_types::State, rbs_types::Stuck>,
+    stepped: Result<Boxed<rbs_types::State>, rbs_types::Stuck>,
 ) -> Result<State, Stuck>
     ensures { (inner : Option TypeState) → inside.Does inner stepped
         → Does (machine.typed around.file purpose around.decls around.frames inner) result }
@@ -41,11 +42,29 @@ fn typed(
     }
 }
 
+/// A token went to the first type for this purpose.
+fn newly_typed(
+    alloc: Global,
+    purpose: Purpose,
+    around: Around,
+    stepped: Result<Boxed<rbs_types::State>, rbs_types::Stuck>,
+) -> Result<State, Stuck>
+    ensures { (inner : Option TypeState) → inside.Does inner stepped
+        → Does (machine.typed around.file purpose around.decls around.frames inner) result }
+{
+    let purpose = Boxed::new(alloc, purpose)?;
+    typed(purpose, around, stepped)
+}
+
 /// What the first token of the parameters, the block and the result of a method does inside of these.
-fn function_entered(alloc: Global, token: Token) -> Result<rbs_types::State, rbs_types::Stuck>
+fn function_entered(
+    alloc: Global,
+    token: Token,
+) -> Result<Boxed<rbs_types::State>, rbs_types::Stuck>
     ensures { inside.Does (types.next types.start_function token) result }
 {
-    next(alloc, start_function(alloc), token)
+    let state = Boxed::new(alloc, start_function(alloc))?;
+    advance(alloc, state, token)
 }
 
 /// Where the parameters, the block and the result of a method must begin.
@@ -65,7 +84,7 @@ fn function_begins(
         done,
         params,
     };
-    typed(purpose, around, stepped)
+    newly_typed(alloc, purpose, around, stepped)
 }
 
 /// Where an overload without type parameters must begin.
@@ -93,7 +112,7 @@ pub fn after_overload(
     ensures { Does (machine.after_overload around.file signature done around.decls around.frames token.kind token.spot) result }
 {
     if is_mark(&token.kind, Mark::OpenSquare) {
-        let owner = Owner::Overload { signature, done };
+        let owner = Boxed::new(alloc, Owner::Overload { signature, done })?;
         let done = Params::new(alloc);
         Ok(at(Focus::Param { owner, done }, around))
     } else {
@@ -104,14 +123,14 @@ pub fn after_overload(
 /// Behind the bracket that closes type parameters.
 pub fn after_parameterized(
     alloc: Global,
-    owner: Owner,
+    owner: Boxed<Owner>,
     params: Params,
     around: Around,
     token: Token,
 ) -> Result<State, Stuck>
     ensures { Does (machine.after_parameterized around.file owner params around.decls around.frames token.kind token.spot) result }
 {
-    match owner {
+    match owner.into_inner() {
         Owner::Heading { begun, sort, name } => {
             let headed = Headed {
                 begun,
@@ -326,7 +345,7 @@ fn then_settled(
 
 /// Behind the bound of a type parameter.
 fn after_bound(
-    owner: Owner,
+    owner: Boxed<Owner>,
     done: Params,
     param: Param,
     ty: Tall,
@@ -383,7 +402,7 @@ fn after_whole(
 /// Behind what may be a whole type.
 fn after_final(
     alloc: Global,
-    purpose: Purpose,
+    purpose: Boxed<Purpose>,
     ty: Option<Tall>,
     around: Around,
     token: Token,
@@ -391,7 +410,7 @@ fn after_final(
     ensures { Does (machine.after_final around.file purpose ty around.decls around.frames token.kind token.spot) result }
 {
     match ty {
-        Some(ty) => after_whole(alloc, purpose, ty, around, token),
+        Some(ty) => after_whole(alloc, purpose.into_inner(), ty, around, token),
         None => Err(Stuck::Syntax),
     }
 }
@@ -399,42 +418,42 @@ fn after_final(
 /// What a token does that doesn't go on with a type.
 fn behind_type(
     alloc: Global,
-    purpose: Purpose,
-    inner: rbs_types::State,
+    purpose: Boxed<Purpose>,
+    inner: Boxed<rbs_types::State>,
     around: Around,
     token: Token,
 ) -> Result<State, Stuck>
     ensures { Does (machine.after_final around.file purpose (types.final inner) around.decls around.frames token.kind token.spot) result }
 {
-    let ty = finish(alloc, inner)?;
+    let ty = finish(alloc, inner.into_inner())?;
     after_final(alloc, purpose, ty, around, token)
 }
 
 /// What a token does that goes on with a type, or leads nowhere.
 fn inside_type(
     alloc: Global,
-    purpose: Purpose,
-    inner: rbs_types::State,
+    purpose: Boxed<Purpose>,
+    inner: Boxed<rbs_types::State>,
     around: Around,
     token: Token,
 ) -> Result<State, Stuck>
     ensures { Does (machine.typed around.file purpose around.decls around.frames (types.next inner token)) result }
 {
-    let stepped = next(alloc, inner, token);
+    let stepped = advance(alloc, inner, token);
     typed(purpose, around, stepped)
 }
 
 /// Inside of a type: a token goes to the type, and where it doesn't go on with that, behind the type.
 pub fn typed_on(
     alloc: Global,
-    purpose: Purpose,
-    inner: rbs_types::State,
+    purpose: Boxed<Purpose>,
+    inner: Boxed<rbs_types::State>,
     around: Around,
     token: Token,
 ) -> Result<State, Stuck>
     ensures { Does (machine.typed_on around.file purpose inner (types.next inner token) around.decls around.frames token.kind token.spot) result }
 {
-    if is_ended(&inner, &token.kind, &token.spot) {
+    if is_ended(inner.get(), &token.kind, &token.spot) {
         behind_type(alloc, purpose, inner, around, token)
     } else {
         inside_type(alloc, purpose, inner, around, token)
@@ -444,15 +463,15 @@ pub fn typed_on(
 /// The state behind a type with which the text ends, if it is whole.
 pub fn type_ended(
     alloc: Global,
-    purpose: Purpose,
-    inner: rbs_types::State,
+    purpose: Boxed<Purpose>,
+    inner: Boxed<rbs_types::State>,
     end: u32,
     around: Around,
 ) -> Result<State, Stuck>
     ensures { Does (machine.type_ended around.file purpose (types.final inner) end around.decls around.frames) result }
 {
-    match finish(alloc, inner)? {
-        Some(ty) => settled_type(alloc, purpose, ty, end, around),
+    match finish(alloc, inner.into_inner())? {
+        Some(ty) => settled_type(alloc, purpose.into_inner(), ty, end, around),
         None => Err(Stuck::Syntax),
     }
 }

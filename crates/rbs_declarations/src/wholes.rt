@@ -207,6 +207,7 @@ pub fn declared(begun: Begun, end: u32, body: DeclBody, around: Around) -> Resul
 {
     let place = place_from(around.file, &begun, end);
     let Begun { notes, .. } = begun;
+    let notes = notes.into_inner();
     with_decl(around, Decl { place, notes, body })
 }
 
@@ -216,7 +217,7 @@ pub fn membered(begun: Begun, end: u32, member: Member, around: Around) -> Resul
 {
     let place = place_from(around.file, &begun, end);
     let Begun { notes, .. } = begun;
-    with_member(around, place, notes, member)
+    with_member(around, place, notes.into_inner(), member)
 }
 
 /// The state behind a declaration of this frame that ends at `end`.

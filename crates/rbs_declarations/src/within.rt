@@ -36,7 +36,10 @@ fn is_low(focus: &Focus) -> bool
     ensures { IsTrue result ↔ (inner_height focus.now ≤ 200) }
 {
     match focus {
-        Focus::Typed { purpose, inner } => phrase_levels(purpose, need_of(inner)) <= 200,
+        Focus::Typed { purpose, inner } => {
+            let levels = need_of(inner.get());
+            phrase_levels(purpose.get(), levels) <= 200
+        }
         _ => true,
     }
 }
@@ -78,7 +81,7 @@ fn purpose_open(purpose: &Purpose) -> u32
 {
     match purpose {
         Purpose::Parent { .. } | Purpose::SelfType { .. } => 1,
-        Purpose::Bound { owner, .. } => owner_open(owner) + 1,
+        Purpose::Bound { owner, .. } => owner_open(owner.get()) + 1,
         _ => 0,
     }
 }
@@ -97,11 +100,11 @@ fn focus_open(focus: &Focus) -> u32
         | Focus::Bound { owner, .. }
         | Focus::BoundNamed { owner, .. }
         | Focus::BoundSingleton { owner, .. }
-        | Focus::Bounded { owner, .. } => owner_open(owner) + 1,
-        Focus::BoundClass { owner, .. } => owner_open(owner) + 2,
-        Focus::Parameterized { owner, .. } => owner_open(owner),
+        | Focus::Bounded { owner, .. } => owner_open(owner.get()) + 1,
+        Focus::BoundClass { owner, .. } => owner_open(owner.get()) + 2,
+        Focus::Parameterized { owner, .. } => owner_open(owner.get()),
         Focus::Parent { .. } | Focus::SelfType { .. } | Focus::SelfNamed { .. } => 1,
-        Focus::Typed { purpose, .. } => purpose_open(purpose),
+        Focus::Typed { purpose, .. } => purpose_open(purpose.get()),
         _ => 0,
     }
 }
@@ -111,7 +114,7 @@ fn inner_reach(focus: &Focus) -> u32
     ensures { result ≡ capped (inner_reach focus.now) }
 {
     match focus {
-        Focus::Typed { inner, .. } => reach_of(inner),
+        Focus::Typed { inner, .. } => reach_of(inner.get()),
         Focus::BoundSingleton { .. } => 1,
         _ => 0,
     }

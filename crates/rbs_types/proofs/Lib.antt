@@ -19,3 +19,4 @@ pub mod Closing
 pub mod Finish
 pub mod Main
 pub mod Strays
+mod Unended

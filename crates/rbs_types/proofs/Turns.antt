@@ -8,7 +8,6 @@ use Rattle.sig_model.specs.PlainTy as plain
 use Rattle.sig_model.specs.PlainTy.{PlainTys}
 use Rattle.rbs_types.specs.declared.refused.Stuck.{Stuck}
 use Rattle.rbs_types.specs.declared.state.Level.{Level}
-use Rattle.rbs_types.specs.declared.state.Listed.{Listed}
 use Rattle.rbs_types.specs.declared.state.Parameters.{Parameters}
 use Rattle.rbs_types.specs.declared.state.Owner.{Owner}
 use Rattle.rbs_types.specs.declared.state.Frame.{Frame}
@@ -27,10 +26,10 @@ pub tuple_goes_on : (level : Level) (frames : List Frame) (k : Kind) (done : Pla
 tuple_goes_on level frames (kind.Mark mark.CloseSquare) done r b e f g d = absurd (refuted (e.1 refl) f)
 tuple_goes_on level frames k done r b e f g d = subst (λ x. Does (wants ground (frame.Tuple x level ∷ frames) k) r) g d
 
-pub function_goes_on : (level : Level) (frames : List Frame) (k : Kind) (l : Listed) (r : Result State Stuck) (b : Bool) → (IsTrue b ↔ (k ≡ kind.Mark mark.Open)) → b ≡ false
-    → l ≡ nothing_listed → Does (after_outer l level frames k) r → Does (after_function level frames k) r
-function_goes_on level frames (kind.Mark mark.Open) l r b e f g d = absurd (refuted (e.1 refl) f)
-function_goes_on level frames k l r b e f g d = subst (λ x. Does (after_outer x level frames k) r) g d
+pub function_goes_on : (level : Level) (frames : List Frame) (k : Kind) (r : Result State Stuck) (b : Bool) → (IsTrue b ↔ (k ≡ kind.Mark mark.Open)) → b ≡ false
+    → Does (after_outer nothing_listed level frames k) r → Does (after_function level frames k) r
+function_goes_on level frames (kind.Mark mark.Open) r b e f d = absurd (refuted (e.1 refl) f)
+function_goes_on level frames k r b e f d = d
 
 pub parameter_goes_on : (before : Parameters) (owner : Owner) (frames : List Frame) (k : Kind) (takes : Bool) (r : Result State Stuck) (a b c : Bool)
     → (IsTrue a ↔ (k ≡ kind.Mark mark.Question)) → a ≡ false → (IsTrue b ↔ (k ≡ kind.Mark mark.Star)) → b ≡ false → (IsTrue c ↔ (k ≡ kind.Mark mark.DoubleStar)) → c ≡ false
@@ -40,7 +39,7 @@ parameter_goes_on before owner frames (kind.Mark mark.Star) takes r a b c ea fa 
 parameter_goes_on before owner frames (kind.Mark mark.DoubleStar) takes r a b c ea fa eb fb ec fc g d = absurd (refuted (ec.1 refl) fc)
 parameter_goes_on before owner frames k takes r a b c ea fa eb fb ec fc g d = subst (λ x. Does (argument_begins before true x (lower_of k) owner frames k) r) g d
 
-pub parameters_go_on : (owner : Owner) (frames : List Frame) (k : Kind) (p : Parameters) (r : Result State Stuck) (b : Bool) → (IsTrue b ↔ (k ≡ kind.Mark mark.Close)) → b ≡ false
-    → p ≡ no_parameters → Does (parameter_begins p owner frames k) r → Does (after_parameters owner frames k) r
-parameters_go_on owner frames (kind.Mark mark.Close) p r b e f g d = absurd (refuted (e.1 refl) f)
-parameters_go_on owner frames k p r b e f g d = subst (λ x. Does (parameter_begins x owner frames k) r) g d
+pub parameters_go_on : (owner : Owner) (frames : List Frame) (k : Kind) (r : Result State Stuck) (b : Bool) → (IsTrue b ↔ (k ≡ kind.Mark mark.Close)) → b ≡ false
+    → Does (parameter_begins no_parameters owner frames k) r → Does (after_parameters owner frames k) r
+parameters_go_on owner frames (kind.Mark mark.Close) r b e f d = absurd (refuted (e.1 refl) f)
+parameters_go_on owner frames k r b e f d = d

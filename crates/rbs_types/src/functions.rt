@@ -1,6 +1,7 @@
 //! Functions from their parameters to their arrows.
 
 ghost use Rattle.rbs_types.specs.Machine as machine;
+ghost use Rattle.rbs_types.specs.Parts as parts;
 ghost use Rattle.rbs_types.specs.Does.{Does};
 
 use crate::begins::{at, is_mark};
@@ -111,6 +112,18 @@ pub fn after_listed(
     }
 }
 
+/// What a token does behind no parameters of a function.
+fn after_nothing(
+    alloc: Global,
+    level: Level,
+    frames: Stack<Frame>,
+    kind: Kind,
+) -> Result<State, Stuck>
+    ensures { Does (machine.after_outer parts.nothing_listed level frames kind) result }
+{
+    after_outer(nothing_listed(alloc)?, level, frames, kind)
+}
+
 /// Where the parameters of a function may begin.
 pub fn after_function(
     alloc: Global,
@@ -124,7 +137,7 @@ pub fn after_function(
         let owner = Owner::Function(level);
         Ok(at(Focus::Parameters { owner }, frames))
     } else {
-        after_outer(nothing_listed(alloc), level, frames, kind)
+        after_nothing(alloc, level, frames, kind)
     }
 }
 
@@ -171,7 +184,7 @@ pub fn after_block(
             Ok(at(Focus::Parameters { owner }, frames))
         }
         kind => {
-            let inner = nothing_listed(alloc);
+            let inner = nothing_listed(alloc)?;
             after_inner(alloc, needed, inner, outer, level, frames, kind)
         }
     }

@@ -5,6 +5,8 @@ ghost use Rattle.rbs_terminals.specs.declared.token.Mark.TheVariants as mark;
 ghost use Rattle.rbs_terminals.specs.declared.token.Kind.TheVariants as variants;
 ghost use Rattle.rbs_terminals.specs.Keywords as words;
 ghost use Rattle.rbs_terminals.specs.Kinds as kinds;
+ghost use Rattle.rbs_types.specs.declared.state.Focus.TheVariants as focus;
+ghost use Rattle.rbs_types.specs.Parts as parts;
 ghost use Rattle.rbs_types.specs.Machine as machine;
 ghost use Rattle.rbs_types.specs.Does.{Does};
 
@@ -19,7 +21,7 @@ use crate::stack::Stack;
 use crate::state::{Focus, Frame, Listed, Opening, Owner, Parameters, Slot, State};
 use crate::tall::Tall;
 use crate::type_names::{after_bare, after_singleton};
-use plain_data::{NoMemory, Word};
+use plain_data::{Boxed, NoMemory, Word};
 use rbs_terminals::{Keyword, Kind, Mark, base_of, keyword_text, lower_of};
 use std::alloc::Global;
 
@@ -49,7 +51,7 @@ fn opening_of_keyword(keyword: Keyword) -> Option<Opening>
 
 /// A word that can be but the name of a keyword, which no keyword before it has.
 fn keyword_begins(
-    before: Parameters,
+    before: Boxed<Parameters>,
     needed: bool,
     key: Word,
     owner: Owner,
@@ -57,7 +59,7 @@ fn keyword_begins(
 ) -> Result<State, Stuck>
     ensures { Does (machine.keyword_begins before needed key owner frames) result }
 {
-    if before.keys.is_new(&key) {
+    if before.get().keys.is_new(&key) {
         Ok(at(
             Focus::ParameterKey {
                 before,
@@ -74,7 +76,7 @@ fn keyword_begins(
 
 /// A word where a keyword may begin, and a positional parameter too if `takes`.
 fn word_begins(
-    before: Parameters,
+    before: Boxed<Parameters>,
     needed: bool,
     takes: bool,
     word: Word,
@@ -105,7 +107,7 @@ fn word_begins(
 /// A token that is no word, where a positional parameter may begin if `takes`.
 fn type_begins(
     alloc: Global,
-    before: Parameters,
+    before: Boxed<Parameters>,
     needed: bool,
     takes: bool,
     owner: Owner,
@@ -130,7 +132,7 @@ fn type_begins(
 /// Where a keyword may begin, and a positional parameter too if `takes`.
 fn argument_begins(
     alloc: Global,
-    before: Parameters,
+    before: Boxed<Parameters>,
     needed: bool,
     takes: bool,
     owner: Owner,
@@ -156,27 +158,27 @@ fn argument_begins(
 /// Behind the question mark of a parameter.
 pub fn after_parameter_question(
     alloc: Global,
-    before: Parameters,
+    before: Boxed<Parameters>,
     owner: Owner,
     frames: Stack<Frame>,
     kind: Kind,
 ) -> Result<State, Stuck>
     ensures { Does (machine.after_parameter_question before owner frames kind) result }
 {
-    let takes = takes_optional(&before);
+    let takes = takes_optional(before.get());
     argument_begins(alloc, before, false, takes, owner, frames, kind)
 }
 
 /// Behind the star of the rest, which neither the rest, a trailing parameter nor a keyword stands before.
 fn rest_begins(
     alloc: Global,
-    before: Parameters,
+    before: Boxed<Parameters>,
     owner: Owner,
     frames: Stack<Frame>,
 ) -> Result<State, Stuck>
     ensures { Does (machine.parameter_begins before owner frames (variants.Mark mark.Star)) result }
 {
-    if takes_optional(&before) {
+    if takes_optional(before.get()) {
         let slot = Slot::Rest;
         let frame = Frame::Parameter {
             before,
@@ -192,7 +194,7 @@ fn rest_begins(
 /// Where a parameter must begin.
 pub fn parameter_begins(
     alloc: Global,
-    before: Parameters,
+    before: Boxed<Parameters>,
     owner: Owner,
     frames: Stack<Frame>,
     kind: Kind,
@@ -212,9 +214,29 @@ pub fn parameter_begins(
         };
         within(alloc, frame, frames)
     } else {
-        let takes = takes_positional(&before);
+        let takes = takes_positional(before.get());
         argument_begins(alloc, before, true, takes, owner, frames, kind)
     }
+}
+
+/// Where the first parameter must begin.
+fn first_begins(
+    alloc: Global,
+    owner: Owner,
+    frames: Stack<Frame>,
+    kind: Kind,
+) -> Result<State, Stuck>
+    ensures { Does (machine.parameter_begins parts.no_parameters owner frames kind) result }
+{
+    parameter_begins(alloc, no_parameters(alloc)?, owner, frames, kind)
+}
+
+/// Behind the parenthesis that closes no parameters.
+fn after_none(alloc: Global, owner: Owner, frames: Stack<Frame>) -> Result<State, Stuck>
+    ensures { Does (machine.at (focus.Listed parts.nothing_listed owner) frames) result }
+{
+    let listed = nothing_listed(alloc)?;
+    Ok(at(Focus::Listed { listed, owner }, frames))
 }
 
 /// Behind the parenthesis of the parameters.
@@ -227,17 +249,16 @@ pub fn after_parameters(
     ensures { Does (machine.after_parameters owner frames kind) result }
 {
     if is_mark(&kind, Mark::Close) {
-        let listed = nothing_listed(alloc);
-        Ok(at(Focus::Listed { listed, owner }, frames))
+        after_none(alloc, owner, frames)
     } else {
-        parameter_begins(alloc, no_parameters(alloc), owner, frames, kind)
+        first_begins(alloc, owner, frames, kind)
     }
 }
 
 /// Behind the name of a keyword.
 pub fn after_parameter_key(
     alloc: Global,
-    before: Parameters,
+    before: Boxed<Parameters>,
     needed: bool,
     key: Word,
     owner: Owner,
@@ -262,7 +283,7 @@ pub fn after_parameter_key(
 
 /// Behind the name of a positional parameter, which is the last of these.
 pub fn after_parameter_named(
-    parameters: Parameters,
+    parameters: Boxed<Parameters>,
     owner: Owner,
     frames: Stack<Frame>,
     kind: Kind,
@@ -302,8 +323,9 @@ pub fn after_key_rest_named(
 
 /// The name behind the type of a parameter.
 fn parameter_named(
+    alloc: Global,
     ty: Tall,
-    before: Parameters,
+    before: Boxed<Parameters>,
     slot: Slot,
     owner: Owner,
     frames: Stack<Frame>,
@@ -314,12 +336,12 @@ fn parameter_named(
     match name {
         None => refuse((ty, before, slot, owner, frames)),
         Some(name) => match slot {
-            Slot::KeyRest => match all_of(before, Slot::KeyRest, ty, Some(name)) {
+            Slot::KeyRest => match all_of(alloc, before, Slot::KeyRest, ty, Some(name)) {
                 Ok(listed) => Ok(at(Focus::KeyRestNamed { listed, owner }, frames)),
                 Err(NoMemory) => lack((owner, frames)),
             },
             Slot::Key { key, .. } => refuse((ty, before, key, owner, frames, name)),
-            slot => match added(before, slot, ty, Some(name)) {
+            slot => match added(alloc, before, slot, ty, Some(name)) {
                 Ok(parameters) => Ok(at(Focus::ParameterNamed { parameters, owner }, frames)),
                 Err(NoMemory) => lack((owner, frames)),
             },
@@ -329,8 +351,9 @@ fn parameter_named(
 
 /// A comma behind a parameter. The rest of the keywords is the last one.
 fn comma_after(
+    alloc: Global,
     ty: Tall,
-    before: Parameters,
+    before: Boxed<Parameters>,
     slot: Slot,
     owner: Owner,
     frames: Stack<Frame>,
@@ -339,7 +362,7 @@ fn comma_after(
 {
     match slot {
         Slot::KeyRest => refuse((ty, before, owner, frames)),
-        slot => match added(before, slot, ty, None) {
+        slot => match added(alloc, before, slot, ty, None) {
             Ok(before) => Ok(at(Focus::Parameter { before, owner }, frames)),
             Err(NoMemory) => lack((owner, frames)),
         },
@@ -350,7 +373,7 @@ fn comma_after(
 pub fn in_parameter(
     alloc: Global,
     ty: Tall,
-    before: Parameters,
+    before: Boxed<Parameters>,
     slot: Slot,
     owner: Owner,
     frames: Stack<Frame>,
@@ -359,15 +382,15 @@ pub fn in_parameter(
     ensures { Does (machine.in_parameter ty before slot owner frames kind) result }
 {
     match kind {
-        Kind::Mark(Mark::Comma) => comma_after(ty, before, slot, owner, frames),
+        Kind::Mark(Mark::Comma) => comma_after(alloc, ty, before, slot, owner, frames),
         Kind::Mark(Mark::Close) => {
-            match all_of(before, slot, ty, None) {
+            match all_of(alloc, before, slot, ty, None) {
                 Ok(listed) => Ok(at(Focus::Listed { listed, owner }, frames)),
                 Err(NoMemory) => lack((owner, frames)),
             }
         }
         kind => match lower_of(alloc, kind) {
-            Ok(name) => parameter_named(ty, before, slot, owner, frames, name),
+            Ok(name) => parameter_named(alloc, ty, before, slot, owner, frames, name),
             Err(NoMemory) => lack((ty, before, slot, owner, frames)),
         },
     }
@@ -397,7 +420,7 @@ fn after_opening(
 /// Behind a word that may be the name of a keyword, or begin a type.
 pub fn after_parameter_word(
     alloc: Global,
-    before: Parameters,
+    before: Boxed<Parameters>,
     needed: bool,
     word: Word,
     opening: Opening,

@@ -8,7 +8,7 @@ ghost use Rattle.rbs_types.specs.Machine as machine;
 use crate::stack::Stack;
 use crate::state::{Head, Level, Listed, Members, Parameters, Slot};
 use crate::tall::{Args, Keys, Rest, Tall, Talls};
-use plain_data::{Many, NoMemory, Word};
+use plain_data::{Boxed, Many, NoMemory, Word};
 use sig_model::ty::TypeName;
 use std::alloc::Global;
 
@@ -63,20 +63,21 @@ pub fn empty_level(alloc: Global) -> Level
 }
 
 /// No parameter.
-pub fn no_parameters(alloc: Global) -> Parameters
-    ensures { result ≡ parts.no_parameters }
+pub fn no_parameters(alloc: Global) -> Result<Boxed<Parameters>, NoMemory>
+    ensures { IfOk result (λ p. p ≡ parts.no_parameters) }
 {
-    Parameters {
+    let none = Parameters {
         required: Args::new(alloc),
         optional: Args::new(alloc),
         rest: Rest::none(),
         trailing: Args::new(alloc),
         keys: Keys::new(alloc),
-    }
+    };
+    Boxed::new(alloc, none)
 }
 
 /// The parameters, and no rest of the keywords.
-pub fn closed(parameters: Parameters) -> Listed
+pub fn closed(parameters: Boxed<Parameters>) -> Listed
     ensures { result ≡ parts.closed parameters }
 {
     Listed {
@@ -85,10 +86,10 @@ pub fn closed(parameters: Parameters) -> Listed
     }
 }
 
-pub fn nothing_listed(alloc: Global) -> Listed
-    ensures { result ≡ parts.nothing_listed }
+pub fn nothing_listed(alloc: Global) -> Result<Listed, NoMemory>
+    ensures { IfOk result (λ l. l ≡ parts.nothing_listed) }
 {
-    closed(no_parameters(alloc))
+    Ok(closed(no_parameters(alloc)?))
 }
 
 /// A positional parameter may follow: no keyword stands before it.
@@ -154,8 +155,13 @@ fn and_optional(before: Parameters, ty: Tall, name: Option<Word>) -> Result<Para
     })
 }
 
-fn and_rest(before: Parameters, ty: Tall, name: Option<Word>) -> Parameters
-    ensures { result ≡ parts.and_rest before ty name }
+fn and_rest(
+    alloc: Global,
+    before: Parameters,
+    ty: Tall,
+    name: Option<Word>,
+) -> Result<Parameters, NoMemory>
+    ensures { IfOk result (λ p. p ≡ parts.and_rest before ty name) }
 {
     let Parameters {
         required,
@@ -164,13 +170,13 @@ fn and_rest(before: Parameters, ty: Tall, name: Option<Word>) -> Parameters
         trailing,
         keys,
     } = before;
-    Parameters {
+    Ok(Parameters {
         required,
         optional,
-        rest: Rest::of(ty, name),
+        rest: Rest::of(alloc, ty, name)?,
         trailing,
         keys,
-    }
+    })
 }
 
 fn and_keyword(
@@ -197,8 +203,9 @@ fn and_keyword(
     })
 }
 
-/// The parameters, and one more; the rest of the keywords is kept apart.
-pub fn added(
+/// These parameters, and one more; the rest of the keywords is kept apart.
+fn with_added(
+    alloc: Global,
     before: Parameters,
     slot: Slot,
     ty: Tall,
@@ -209,15 +216,32 @@ pub fn added(
     match slot {
         Slot::Positional => and_positional(before, ty, name),
         Slot::Optional => and_optional(before, ty, name),
-        Slot::Rest => Ok(and_rest(before, ty, name)),
+        Slot::Rest => and_rest(alloc, before, ty, name),
         Slot::KeyRest => Ok(before),
         Slot::Key { key, needed } => and_keyword(before, key, needed, ty),
     }
 }
 
+/// The parameters, and one more; the rest of the keywords is kept apart.
+pub fn added(
+    alloc: Global,
+    before: Boxed<Parameters>,
+    slot: Slot,
+    ty: Tall,
+    name: Option<Word>,
+) -> Result<Boxed<Parameters>, NoMemory>
+    ensures { IfOk result (λ p. p ≡ parts.added before slot ty name) }
+{
+    Boxed::new(
+        alloc,
+        with_added(alloc, before.into_inner(), slot, ty, name)?,
+    )
+}
+
 /// All parameters, of which this is the last.
 pub fn all_of(
-    before: Parameters,
+    alloc: Global,
+    before: Boxed<Parameters>,
     slot: Slot,
     ty: Tall,
     name: Option<Word>,
@@ -227,9 +251,9 @@ pub fn all_of(
     match slot {
         Slot::KeyRest => Ok(Listed {
             parameters: before,
-            key_rest: Rest::of(ty, name),
+            key_rest: Rest::of(alloc, ty, name)?,
         }),
-        slot => Ok(closed(added(before, slot, ty, name)?)),
+        slot => Ok(closed(added(alloc, before, slot, ty, name)?)),
     }
 }
 

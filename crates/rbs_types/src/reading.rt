@@ -1,6 +1,6 @@
 //! A reader of types within the limits, which takes one token at a time.
 
-ghost use Rattle.std.specs.Prelude.{◌≡◌};
+ghost use Rattle.std.specs.Prelude.{◌≡◌, IfOk};
 ghost use Rattle.rbs_types.specs.Machine as machine;
 ghost use Rattle.rbs_types.specs.Takes.{Takes, Finishes};
 
@@ -9,7 +9,7 @@ use crate::starts::start;
 use crate::state::State;
 use crate::step;
 use crate::within::is_within;
-use plain_data::NoMemory;
+use plain_data::{Boxed, NoMemory};
 use rbs_terminals::{Kind, Token};
 use sig_model::ty::Ty;
 use std::alloc::Global;
@@ -42,20 +42,19 @@ impl From<NoMemory> for Refused {
 /// What was read so far, and the byte at which its last token ends, 0 where there is none.
 #[derive(Drop)]
 pub struct Reading {
-    pub state: State,
+    pub state: Boxed<State>,
     pub end: u32,
 }
 
 impl Reading {
-    /// Where nothing was read yet. Takes no memory.
-    pub fn new(alloc: Global) -> Reading
-        ensures state { result.state ≡ machine.start }
-        ensures end { result.end ≡ 0 }
+    /// Where nothing was read yet.
+    pub fn new(alloc: Global) -> Result<Reading, NoMemory>
+        ensures { IfOk result (λ r. (r.state ≡ machine.start) × (r.end ≡ 0)) }
     {
-        Reading {
-            state: start(alloc),
+        Ok(Reading {
+            state: Boxed::new(alloc, start(alloc))?,
             end: 0,
-        }
+        })
     }
 
     /// Takes the next token.
@@ -70,9 +69,9 @@ impl Reading {
         let Reading { state, end } = self;
         let past = matches!(token.kind, Kind::PastInteger);
         let token_end = token.spot.end;
-        match step::next(alloc, state, token) {
+        match step::advance(alloc, state, token) {
             Ok(state) => {
-                if past || !is_within(&state, MAX_HEIGHT) {
+                if past || !is_within(state.get(), MAX_HEIGHT) {
                     return Err(Refused::Limit(end));
                 }
                 Ok(Reading {
@@ -94,7 +93,7 @@ impl Reading {
         ensures { Finishes self.state self.end result }
     {
         let Reading { state, end } = self;
-        match step::finish(alloc, state)? {
+        match step::finish(alloc, state.into_inner())? {
             Some(tall) => Ok(tall.into_ty()),
             None => Err(Refused::Syntax(end)),
         }

@@ -2,7 +2,7 @@
 
 use crate::stack::Stack;
 use crate::tall::{Args, Block, Keys, Rest, Tall, Talls};
-use plain_data::Word;
+use plain_data::{Boxed, Word};
 use sig_model::ty::{BaseTy, TypeName};
 
 /// What stands before a type at its place.
@@ -29,7 +29,7 @@ pub struct Parameters {
 /// All parameters of a function.
 #[derive(Drop)]
 pub struct Listed {
-    pub parameters: Parameters,
+    pub parameters: Boxed<Parameters>,
     pub key_rest: Rest,
 }
 
@@ -95,7 +95,7 @@ pub enum Frame {
         outer: Level,
     },
     Parameter {
-        before: Parameters,
+        before: Boxed<Parameters>,
         slot: Slot,
         owner: Owner,
     },
@@ -207,17 +207,17 @@ pub enum Focus {
     },
     /// The comma behind these parameters.
     Parameter {
-        before: Parameters,
+        before: Boxed<Parameters>,
         owner: Owner,
     },
     /// The question mark of a parameter.
     ParameterQuestion {
-        before: Parameters,
+        before: Boxed<Parameters>,
         owner: Owner,
     },
     /// A word that may be the name of a keyword, or begin a type.
     ParameterWord {
-        before: Parameters,
+        before: Boxed<Parameters>,
         needed: bool,
         word: Word,
         opening: Opening,
@@ -225,14 +225,14 @@ pub enum Focus {
     },
     /// The name of a keyword.
     ParameterKey {
-        before: Parameters,
+        before: Boxed<Parameters>,
         needed: bool,
         key: Word,
         owner: Owner,
     },
     /// The name of a positional parameter, which is the last of these.
     ParameterNamed {
-        parameters: Parameters,
+        parameters: Boxed<Parameters>,
         owner: Owner,
     },
     /// The name of the rest of the keywords.

@@ -1,6 +1,6 @@
 //! A reader of types that takes one token at a time, without limits.
 
-ghost use Rattle.std.specs.Prelude.{◌≡◌, IfOk};
+ghost use Rattle.std.specs.Prelude.{◌≡◌, None, Ok, IfOk};
 ghost use Rattle.rbs_terminals.specs.declared.token.Spot.{Spot};
 ghost use Rattle.rbs_types.specs.Machine as machine;
 ghost use Rattle.rbs_types.specs.Does.{Does, IsInHead};
@@ -24,7 +24,7 @@ use crate::type_names::{
     after_bare, after_scope, after_singleton, after_singleton_open, after_singleton_scope,
     after_singleton_upper, after_upper,
 };
-use plain_data::NoMemory;
+use plain_data::{Boxed, NoMemory};
 use rbs_terminals::{Kind, Token};
 use std::alloc::Global;
 
@@ -111,6 +111,18 @@ pub fn next(alloc: Global, state: State, token: Token) -> Result<State, Stuck>
     }
 }
 
+/// Takes the next token, as [`next`] does, where the state is in memory of its own.
+///
+/// # Errors
+///
+/// As [`next`].
+pub fn advance(alloc: Global, state: Boxed<State>, token: Token) -> Result<Boxed<State>, Stuck>
+    ensures { Does (machine.next state token) result }
+{
+    let state = next(alloc, state.into_inner(), token)?;
+    Ok(Boxed::new(alloc, state)?)
+}
+
 /// The type, if no bracket is open.
 fn end_type(ty: Tall, frames: Stack<Frame>) -> Option<Tall>
     ensures { result ≡ machine.end_type ty frames }
@@ -146,6 +158,13 @@ fn end_simple(
     end_opt(ty, members, frames)
 }
 
+/// No type ends here: what was read is dropped.
+fn unfinished<T: Drop>(_read: T) -> Result<Option<Tall>, NoMemory>
+    ensures { result ≡ Ok None }
+{
+    Ok(None)
+}
+
 /// The type, if the text may end here.
 pub fn finish(alloc: Global, state: State) -> Result<Option<Tall>, NoMemory>
     ensures { IfOk result (λ whole. whole ≡ machine.final state) }
@@ -158,6 +177,6 @@ pub fn finish(alloc: Global, state: State) -> Result<Option<Tall>, NoMemory>
         }
         Focus::Simple { ty, level } => end_simple(alloc, ty, level, frames),
         Focus::Optional { ty, members } => end_opt(ty, members, frames),
-        _ => Ok(None),
+        focus => unfinished((focus, frames)),
     }
 }

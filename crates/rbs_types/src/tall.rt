@@ -133,7 +133,7 @@ impl Model for Args {
 /// The parameter of the rest, if there is one, with the height of its type.
 #[derive(Drop)]
 pub struct Rest {
-    item: Option<Arg>,
+    item: Option<Boxed<Arg>>,
     levels: u32,
 }
 
@@ -186,6 +186,16 @@ impl Model for Block {
     ghost invariant = { λ t. t.levels ≡ capped (block_height (plain_block t.item)) };
 }
 
+/// The parameter, moved.
+fn argument_of(item: Option<Boxed<Arg>>) -> Option<Arg>
+    ensures { result ≡ item }
+{
+    match item {
+        Some(argument) => Some(argument.into_inner()),
+        None => None,
+    }
+}
+
 /// The function of these parameters, this block and this result, with the height of its tallest type.
 fn function_of(listed: Listed, block: Block, outcome: Tall) -> (FunTy, u32)
     ensures fun { plain_fun result.0 ≡ function_of listed block outcome }
@@ -202,14 +212,14 @@ fn function_of(listed: Listed, block: Block, outcome: Tall) -> (FunTy, u32)
         rest,
         trailing,
         keys,
-    } = parameters;
+    } = parameters.into_inner();
     let fun = FunTy {
         required: required.items,
         optional: optional.items,
-        rest: rest.item,
+        rest: argument_of(rest.item),
         trailing: trailing.items,
         keys: keys.items,
-        key_rest: key_rest.item,
+        key_rest: argument_of(key_rest.item),
         block: block.item,
         result: outcome.ty,
     };
@@ -512,14 +522,14 @@ impl Rest {
     }
 
     /// A parameter of this type, with its name if it has one.
-    pub fn of(ty: Tall, name: Option<Word>) -> Rest
-        ensures { result ≡ plain.rest ty name }
+    pub fn of(alloc: Global, ty: Tall, name: Option<Word>) -> Result<Rest, NoMemory>
+        ensures { IfOk result (λ rest. rest ≡ plain.rest ty name) }
     {
         let Tall { ty, levels } = ty;
-        Rest {
-            item: Some(Arg { ty, name }),
+        Ok(Rest {
+            item: Some(Boxed::new(alloc, Arg { ty, name })?),
             levels,
-        }
+        })
     }
 
     pub fn levels(&self) -> u32

@@ -47,7 +47,7 @@ impl Listed {
     pub fn levels(&self) -> u32
         ensures { result ≡ capped (listed_height self.now) }
     {
-        self.parameters.levels().max(self.key_rest.levels())
+        self.parameters.get().levels().max(self.key_rest.levels())
     }
 }
 

@@ -119,7 +119,7 @@ fn held(frame: &Frame, levels: u32) -> u32
             before,
             slot,
             owner,
-        } => owned(owner, kept(before, slot).max(levels)),
+        } => owned(owner, kept(before.get(), slot).max(levels)),
         Frame::Block {
             inner,
             outer,
@@ -164,8 +164,8 @@ fn need_at(focus: &Focus) -> u32
         Focus::Parameter { before, owner }
         | Focus::ParameterQuestion { before, owner }
         | Focus::ParameterWord { before, owner, .. }
-        | Focus::ParameterKey { before, owner, .. } => owned(owner, before.levels().max(1)),
-        Focus::ParameterNamed { parameters, owner } => owned(owner, parameters.levels()),
+        | Focus::ParameterKey { before, owner, .. } => owned(owner, before.get().levels().max(1)),
+        Focus::ParameterNamed { parameters, owner } => owned(owner, parameters.get().levels()),
         Focus::KeyRestNamed { listed, owner } | Focus::Listed { listed, owner } => {
             owned(owner, listed.levels())
         }

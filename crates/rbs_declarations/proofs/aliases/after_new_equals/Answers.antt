@@ -1,4 +1,4 @@
-use Rattle.std.proofs.Common.{Bool, if◌then◌else◌, ap, subst, sym, ◌∙◌}
+use Rattle.std.proofs.Common.{if◌then◌else◌, ap, subst, sym, ◌∙◌}
 use Rattle.rbs_declarations.specs.declared.state.Focus.TheVariants as focus
 use Rattle.rbs_declarations.specs.Machine.{at, with_equals, after_new}
 use Rattle.rbs_declarations.specs.Does.{Does}

@@ -1,4 +1,4 @@
-use Rattle.std.proofs.Common.{Bool, Some, if◌then◌else◌, ap, subst, sym, ◌∙◌}
+use Rattle.std.proofs.Common.{Some, if◌then◌else◌, ap, subst, sym, ◌∙◌}
 use Rattle.rbs_declarations.specs.declared.state.Focus.TheVariants as focus
 use Rattle.rbs_declarations.specs.Machine.{at, double_equals, with_equals, then_part, with_alias}
 use Rattle.rbs_declarations.specs.Does.{Does}

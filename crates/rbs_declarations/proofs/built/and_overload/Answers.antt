@@ -1,4 +1,4 @@
-use Rattle.std.proofs.Common.{◌≡◌, refl, sym, List, Option, None, Some}
+use Rattle.std.proofs.Common.{◌≡◌, refl, sym, List, None}
 use Rattle.sig_model.specs.PlainTy as plain
 use Rattle.sig_model.specs.PlainTy.{PlainTy}
 use Rattle.sig_model.specs.PlainMember.{PlainParam, PlainMethod}

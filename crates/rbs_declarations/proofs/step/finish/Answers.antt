@@ -1,4 +1,4 @@
-use Rattle.std.proofs.Common.{◌≡◌, ◌∙◌, sym, ap}
+use Rattle.std.proofs.Common.{◌∙◌, sym, ap}
 use Rattle.rbs_declarations.specs.declared.state.Focus.{Focus}
 use Rattle.rbs_declarations.specs.Machine.{settled, whole_file}
 use Rattle.rbs_declarations.proofs.Unsettled.{unsettled}

@@ -1,4 +1,4 @@
-use Rattle.std.proofs.Common.{◌≡◌, ◌∙◌, sym, ap, subst, Some}
+use Rattle.std.proofs.Common.{◌∙◌, sym, ap, subst}
 use Rattle.rbs_declarations.specs.Machine.{whole_file}
 use Rattle.rbs_declarations.specs.Does.{Does}
 use Rattle.rbs_declarations.proofs.step.whole_file.Goals as goal
