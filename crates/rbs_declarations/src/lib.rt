@@ -4,13 +4,13 @@
 mod aliases;
 mod around;
 mod begins;
-mod built;
+pub mod built;
 mod headings;
 mod methods;
-mod operators;
+pub mod operators;
 mod other_members;
 mod params;
-mod plain;
+pub mod plain;
 mod reading;
 mod refused;
 mod sites;
@@ -22,7 +22,7 @@ mod type_names;
 mod typed;
 mod wholes;
 mod within;
-mod words;
+pub mod words;
 
 pub use state::State;
 pub use text::read_file;

@@ -3,7 +3,7 @@ use Rattle.std.proofs.Common.{ℕ, ◌≡◌, refl, sym, ◌∙◌, ap, subst, �
 use Rattle.sig_model.specs.declared.ty.Ty.{Ty}
 use Rattle.sig_model.specs.declared.decl.Decl.{Decl}
 use Rattle.sig_model.specs.PlainTy.{PlainTy}
-use Rattle.sig_model.specs.PlainDecl.{PlainDecls}
+use Rattle.sig_model.specs.PlainDecl.{PlainDecls, plain_decls}
 use Rattle.rbs_lexer.specs.declared.token.SigToken.{SigToken}
 use Rattle.rbs_lexer.specs.Division.{End, whole, stray, past, IsDivided}
 use Rattle.rbs_terminals.specs.declared.token.Token.{Token}
@@ -86,3 +86,8 @@ module _ (file : ℕ) where
   type_refused ts e bytes d short (fault.Syntax at) a = (at, refl, short, (ts, e, d.divided, a), λ u h. a.1.no_text u (type_there ts e bytes d u h))
   type_refused ts e bytes d short (fault.Limit at) a = (at, refl, inr (short, (ts, e, d.divided, a)), λ u h. a.1.no_text u (type_there ts e bytes d u h))
   type_refused ts e bytes d short fault.NoMemory a = tt
+
+  -- ---- declarations that were found to be spelled
+
+  pub file_found : (ts : List Token) (ds : List Decl) → IsFileText file (plain_decls ds) ts → AnswersFileOf file ts (Ok ds)
+  file_found ts ds text = (text, λ es h. files_are_spelled_once file es (plain_decls ds) ts h.written text.written)

@@ -1,6 +1,7 @@
 //! Signature text, read: the declarations that a file spells, or the type that a text does.
 #![tactic(auto)]
 
+mod files;
 mod refused;
 mod stops;
 #[cfg(test)]

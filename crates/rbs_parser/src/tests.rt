@@ -1,6 +1,8 @@
 use crate::{ParseRefused, parse, parse_type};
 use plain_data::NoMemory;
+use rbs_files::file_on;
 use rbs_lexer::divide;
+use rbs_terminals::Terminals;
 use sig_model::place::Place;
 use std::alloc::Global;
 use std::test::Fail;
@@ -15,6 +17,19 @@ fn count(alloc: Global, bytes: &[u8]) -> Result<usize, ParseRefused> {
     }
     let divided = divide(alloc, 3, bytes)?;
     Ok(parse(alloc, 3, bytes, &divided)?.len())
+}
+
+/// How many declarations of a text are read phrase by phrase.
+fn count_by_phrases(alloc: Global, bytes: &[u8]) -> Result<usize, ParseRefused> {
+    if bytes.len() > LIMIT {
+        return Err(ParseRefused::NoMemory);
+    }
+    let divided = divide(alloc, 3, bytes)?;
+    let terminals = Terminals::new(alloc, bytes, divided.tokens.as_slice());
+    match file_on(alloc, 3, terminals) {
+        Ok(decls) => Ok(decls.len()),
+        Err(_) => Err(ParseRefused::NoMemory),
+    }
 }
 
 /// Why a text is refused as a type.
@@ -57,6 +72,87 @@ fn declarations(rt: HostRuntime) -> Result<(), Fail> {
         ("class 9223372036854775808 end", Err(syntax(5))),
     ] {
         assert_eq!(rt; count(rt.alloc(), text.as_bytes()), outcome, "{text}");
+    }
+    Ok(())
+}
+
+#[test]
+fn each_production_is_read_by_phrases(rt: HostRuntime) -> Result<(), Fail> {
+    for (text, number) in [
+        ("", 0),
+        (
+            "class A end module B end interface _C end type d = A E: A",
+            5,
+        ),
+        (
+            "class A::B[unchecked out T < _C[T], in U < singleton(::A), V] < ::D[T] end",
+            1,
+        ),
+        (
+            "module A[T] : _B, C[T], ::D class E end module F end G: H type i = J end",
+            1,
+        ),
+        (
+            "# c\n%a{one} # d\n%a{two} class A\n# e\n%a{three} def a: -> B\nend",
+            1,
+        ),
+        (
+            "interface _A[T] def a?: (T) -> B def []=: () -> C include _D[T] end",
+            1,
+        ),
+        (
+            "class A def self.a!: () -> B def self: -> C def class?: -> D def +: -> E end",
+            1,
+        ),
+        (
+            "class A def a=: -> B def -@: -> C def <=>: -> D def []: -> E def ==: -> F end",
+            1,
+        ),
+        (
+            "class A private def a: -> B private\ndef b: -> C public attr_reader d: E end",
+            1,
+        ),
+        (
+            "class A attr_writer a: B attr_accessor self: B private end",
+            1,
+        ),
+        (
+            "class A include B[C] extend D prepend ::E alias a b alias c= [] alias d == end",
+            1,
+        ),
+        (
+            "class A alias a= == alias == a alias a=== alias A B @a: B self.@c: D end",
+            1,
+        ),
+        (
+            "class A def a: [T] (T) -> B | [T < C, U] () { (T) -> U } -> D | -> E end",
+            1,
+        ),
+        (
+            "class A def a: (B, ?C c, *D, E e, f: F, ?g: G, **H h) ?{ (I) -> J } -> K end",
+            1,
+        ),
+        (
+            "class A def a: (nil, b, ?c, **d) -> ^(A) -> B? def b: () -> ^-> ^() -> A?? end",
+            1,
+        ),
+        (
+            "type a = (A | B & C?)? | [] | [A] | [A, B[C, D]] | {} | { a: A, ?class: B }",
+            1,
+        ),
+        (
+            "type a = 1 | -1 | \"b\" | :c | nil | self | class | singleton(A::B) | ::C::d",
+            1,
+        ),
+        (
+            "type a = ^(A) { () -> B } -> C type b = _A | c | A::_B | (A)",
+            2,
+        ),
+        ("type a = 9223372036854775807 A::B: C ::D: E", 3),
+    ] {
+        let found = count_by_phrases(rt.alloc(), text.as_bytes());
+        assert_eq!(rt; found, Ok(number), "{text}");
+        assert_eq!(rt; count(rt.alloc(), text.as_bytes()), found, "{text}");
     }
     Ok(())
 }

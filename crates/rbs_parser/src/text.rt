@@ -6,10 +6,10 @@ ghost use Rattle.sig_model.specs.PlainDecl.{PlainDecls};
 ghost use Rattle.rbs_lexer.specs.Division.{end_of, span, IsDivided};
 ghost use Rattle.rbs_parser.specs.Texts.{refusal, IsFile, IsType, AnswersFile, AnswersType};
 
+use crate::files::read;
 use crate::refused::ParseRefused;
 use crate::stops::stop_behind;
 use plain_data::Many;
-use rbs_declarations::read_file;
 use rbs_lexer::Divided;
 use rbs_terminals::Terminals;
 use rbs_types::{Refused, read_type};
@@ -66,8 +66,7 @@ pub fn parse(
     }
     let tokens = divided.tokens.as_slice();
     let stop = stop_behind(alloc, tokens, divided.ending);
-    let terminals = Terminals::new(alloc, bytes, tokens);
-    match read_file(alloc, file, terminals, stop) {
+    match read(alloc, file, bytes, tokens, stop) {
         Ok(decls) => Ok(decls),
         Err(refused) => Err(refusal(file, refused)),
     }

@@ -21,6 +21,7 @@ mod type_names;
 mod within;
 
 pub use ended::is_ended;
+pub use parts::{add, grown, no_name, none_yet, root, takes_optional, takes_positional};
 pub use reading::Refused;
 pub use refused::Stuck;
 pub use stack::Stack;
@@ -28,6 +29,6 @@ pub use starts::{start, start_arguments, start_function};
 pub use state::{
     Focus, Frame, Head, Level, Listed, Members, Opening, Owner, Parameters, Slot, State,
 };
-pub use tall::{Args, Block, Keys, Rest, Tall, Talls};
+pub use tall::{Args, Block, Keys, Rest, Tall, Talls, fun_of};
 pub use text::read_type;
 pub use within::{is_within, need_of, reach_of};

@@ -1,6 +1,6 @@
 //! The parts of types that are made in several steps: names, parameters and functions.
 
-ghost use Rattle.std.specs.Prelude.{◌≡◌, Some, IfOk};
+ghost use Rattle.std.specs.Prelude.{◌≡◌, Some, IfOk, OnOk};
 ghost use Rattle.sig_model.specs.PlainTy as plain;
 ghost use Rattle.rbs_types.specs.Parts as parts;
 ghost use Rattle.rbs_types.specs.Machine as machine;
@@ -62,18 +62,24 @@ pub fn empty_level(alloc: Global) -> Level
     level_of(alloc, members)
 }
 
-/// No parameter.
-pub fn no_parameters(alloc: Global) -> Result<Boxed<Parameters>, NoMemory>
-    ensures { IfOk result (λ p. p ≡ parts.no_parameters) }
+/// No parameter yet. Takes no memory.
+pub fn none_yet(alloc: Global) -> Parameters
+    ensures { result ≡ parts.no_parameters }
 {
-    let none = Parameters {
+    Parameters {
         required: Args::new(alloc),
         optional: Args::new(alloc),
         rest: Rest::none(),
         trailing: Args::new(alloc),
         keys: Keys::new(alloc),
-    };
-    Boxed::new(alloc, none)
+    }
+}
+
+/// No parameter.
+pub fn no_parameters(alloc: Global) -> Result<Boxed<Parameters>, NoMemory>
+    ensures { IfOk result (λ p. p ≡ parts.no_parameters) }
+{
+    Boxed::new(alloc, none_yet(alloc))
 }
 
 /// The parameters, and no rest of the keywords.
@@ -106,101 +112,37 @@ pub fn takes_optional(parameters: &Parameters) -> bool
     parameters.rest.is_none() && parameters.trailing.is_empty() && parameters.keys.is_empty()
 }
 
-/// A positional parameter is required, or trailing where an optional one or the rest stands before it.
-fn and_positional(before: Parameters, ty: Tall, name: Option<Word>) -> Result<Parameters, NoMemory>
-    ensures { IfOk result (λ p. p ≡ parts.and_positional before ty name) }
+/// Adds a positional parameter, which is required, or trailing where an optional one or the rest stands before it.
+fn add_positional(parameters: &mut Parameters, ty: Tall, name: Option<Word>) -> Result<(), NoMemory>
+    ensures { OnOk result (parameters.new ≡ parts.and_positional parameters.old ty name) }
 {
-    let Parameters {
-        required,
-        optional,
-        rest,
-        trailing,
-        keys,
-    } = before;
-    if optional.is_empty() && rest.is_none() {
-        Ok(Parameters {
-            required: required.with(ty, name)?,
-            optional,
-            rest,
-            trailing,
-            keys,
-        })
+    if parameters.optional.is_empty() && parameters.rest.is_none() {
+        parameters.required.add(ty, name)
     } else {
-        Ok(Parameters {
-            required,
-            optional,
-            rest,
-            trailing: trailing.with(ty, name)?,
-            keys,
-        })
+        parameters.trailing.add(ty, name)
     }
 }
 
-fn and_optional(before: Parameters, ty: Tall, name: Option<Word>) -> Result<Parameters, NoMemory>
-    ensures { IfOk result (λ p. p ≡ parts.and_optional before ty name) }
-{
-    let Parameters {
-        required,
-        optional,
-        rest,
-        trailing,
-        keys,
-    } = before;
-    Ok(Parameters {
-        required,
-        optional: optional.with(ty, name)?,
-        rest,
-        trailing,
-        keys,
-    })
-}
-
-fn and_rest(
+/// Adds one more to these parameters; the rest of the keywords is kept apart.
+pub fn add(
     alloc: Global,
-    before: Parameters,
+    parameters: &mut Parameters,
+    slot: Slot,
     ty: Tall,
     name: Option<Word>,
-) -> Result<Parameters, NoMemory>
-    ensures { IfOk result (λ p. p ≡ parts.and_rest before ty name) }
+) -> Result<(), NoMemory>
+    ensures { OnOk result (parameters.new ≡ parts.added parameters.old slot ty name) }
 {
-    let Parameters {
-        required,
-        optional,
-        rest: _,
-        trailing,
-        keys,
-    } = before;
-    Ok(Parameters {
-        required,
-        optional,
-        rest: Rest::of(alloc, ty, name)?,
-        trailing,
-        keys,
-    })
-}
-
-fn and_keyword(
-    before: Parameters,
-    key: Word,
-    needed: bool,
-    ty: Tall,
-) -> Result<Parameters, NoMemory>
-    ensures { IfOk result (λ p. p ≡ parts.and_keyword before key needed ty) }
-{
-    let Parameters {
-        required,
-        optional,
-        rest,
-        trailing,
-        keys,
-    } = before;
-    Ok(Parameters {
-        required,
-        optional,
-        rest,
-        trailing,
-        keys: keys.with(key, needed, ty)?,
-    })
+    match slot {
+        Slot::Positional => add_positional(parameters, ty, name),
+        Slot::Optional => parameters.optional.add(ty, name),
+        Slot::Rest => {
+            parameters.rest = Rest::of(alloc, ty, name)?;
+            Ok(())
+        }
+        Slot::KeyRest => Ok(()),
+        Slot::Key { key, needed } => parameters.keys.add(key, needed, ty),
+    }
 }
 
 /// These parameters, and one more; the rest of the keywords is kept apart.
@@ -213,13 +155,9 @@ fn with_added(
 ) -> Result<Parameters, NoMemory>
     ensures { IfOk result (λ p. p ≡ parts.added before slot ty name) }
 {
-    match slot {
-        Slot::Positional => and_positional(before, ty, name),
-        Slot::Optional => and_optional(before, ty, name),
-        Slot::Rest => and_rest(alloc, before, ty, name),
-        Slot::KeyRest => Ok(before),
-        Slot::Key { key, needed } => and_keyword(before, key, needed, ty),
-    }
+    let mut parameters = before;
+    add(alloc, &mut parameters, slot, ty, name)?;
+    Ok(parameters)
 }
 
 /// The parameters, and one more; the rest of the keywords is kept apart.

@@ -3,7 +3,7 @@
 //! Heights are counted up to [`MOST`](crate::tallest::MOST): what is higher counts as that high, which is past every limit.
 #![tactic(auto, using(crate::proofs::Caps::tall_types))]
 
-ghost use Rattle.std.specs.Prelude.{◌≡◌, Option, Some, None, pos, IfOk, MatchOption};
+ghost use Rattle.std.specs.Prelude.{◌≡◌, Option, Some, None, pos, IfOk, OnOk, MatchOption};
 ghost use Rattle.sig_model.specs.PlainTy as plain;
 ghost use Rattle.sig_model.specs.PlainTy.{plain_ty, plain_tys, plain_fun};
 ghost use Rattle.sig_model.specs.Height.{height, tallest, tallest_key, tallest_arg, rest_height, block_height, fun_height};
@@ -197,22 +197,19 @@ fn argument_of(item: Option<Boxed<Arg>>) -> Option<Arg>
 }
 
 /// The function of these parameters, this block and this result, with the height of its tallest type.
-fn function_of(listed: Listed, block: Block, outcome: Tall) -> (FunTy, u32)
-    ensures fun { plain_fun result.0 ≡ function_of listed block outcome }
-    ensures levels { result.1 ≡ capped (fun_height (function_of listed block outcome)) }
+pub fn fun_of(parameters: Parameters, key_rest: Rest, block: Block, outcome: Tall) -> (FunTy, u32)
+    ensures fun { plain_fun result.0 ≡ function_of (record { parameters = parameters; key_rest = key_rest }) block outcome }
+    ensures levels { result.1 ≡ capped (fun_height (function_of (record { parameters = parameters; key_rest = key_rest }) block outcome)) }
 {
-    let levels = listed.levels().max(block.levels).max(outcome.levels);
-    let Listed {
-        parameters,
-        key_rest,
-    } = listed;
+    let listed = parameters.levels().max(key_rest.levels);
+    let levels = listed.max(block.levels).max(outcome.levels);
     let Parameters {
         required,
         optional,
         rest,
         trailing,
         keys,
-    } = parameters.into_inner();
+    } = parameters;
     let fun = FunTy {
         required: required.items,
         optional: optional.items,
@@ -224,6 +221,18 @@ fn function_of(listed: Listed, block: Block, outcome: Tall) -> (FunTy, u32)
         result: outcome.ty,
     };
     (fun, levels)
+}
+
+/// The function of all these parameters, this block and this result, with the height of its tallest type.
+fn function_of(listed: Listed, block: Block, outcome: Tall) -> (FunTy, u32)
+    ensures fun { plain_fun result.0 ≡ function_of listed block outcome }
+    ensures levels { result.1 ≡ capped (fun_height (function_of listed block outcome)) }
+{
+    let Listed {
+        parameters,
+        key_rest,
+    } = listed;
+    fun_of(parameters.into_inner(), key_rest, block, outcome)
 }
 
 impl Tall {
@@ -344,6 +353,14 @@ impl Tall {
         ensures { IfOk result (λ t. t ≡ plain.fun (function_of listed block outcome)) }
     {
         let (fun, levels) = function_of(listed, block, outcome);
+        Tall::of_fun(alloc, fun, levels)
+    }
+
+    /// A proc type of this function, whose tallest type has `levels`.
+    pub fn of_fun(alloc: Global, fun: FunTy, levels: u32) -> Result<Tall, NoMemory>
+        requires { levels ≡ capped (fun_height (plain_fun fun)) }
+        ensures { IfOk result (λ t. t ≡ plain.fun (plain_fun fun)) }
+    {
         Ok(Tall {
             ty: Ty::Fun(Boxed::new(alloc, fun)?),
             levels: above(levels),
@@ -410,17 +427,23 @@ impl Talls {
         items
     }
 
+    /// Adds one more at the end.
+    pub fn add(&mut self, more: Tall) -> Result<(), NoMemory>
+        ensures { OnOk result (self.new ≡ and_ty self.old more) }
+    {
+        let Tall { ty, levels } = more;
+        self.items.push(ty)?;
+        self.levels = self.levels.max(levels);
+        Ok(())
+    }
+
     /// The types, and one more.
     pub fn with(self, more: Tall) -> Result<Talls, NoMemory>
         ensures { IfOk result (λ ts. ts ≡ and_ty self more) }
     {
-        let Talls { mut items, levels } = self;
-        let Tall { ty, levels: more } = more;
-        items.push(ty)?;
-        Ok(Talls {
-            items,
-            levels: levels.max(more),
-        })
+        let mut types = self;
+        types.add(more)?;
+        Ok(types)
     }
 }
 
@@ -459,17 +482,23 @@ impl Keys {
         true
     }
 
+    /// Adds one more at the end.
+    pub fn add(&mut self, key: Word, needed: bool, ty: Tall) -> Result<(), NoMemory>
+        ensures { OnOk result (self.new ≡ and_key self.old key needed ty) }
+    {
+        let Tall { ty, levels } = ty;
+        self.items.push(RecKey { key, needed, ty })?;
+        self.levels = self.levels.max(levels);
+        Ok(())
+    }
+
     /// The keys, and one more.
     pub fn with(self, key: Word, needed: bool, ty: Tall) -> Result<Keys, NoMemory>
         ensures { IfOk result (λ ks. ks ≡ and_key self key needed ty) }
     {
-        let Keys { mut items, levels } = self;
-        let Tall { ty, levels: more } = ty;
-        items.push(RecKey { key, needed, ty })?;
-        Ok(Keys {
-            items,
-            levels: levels.max(more),
-        })
+        let mut keys = self;
+        keys.add(key, needed, ty)?;
+        Ok(keys)
     }
 }
 
@@ -496,17 +525,23 @@ impl Args {
         self.items.is_empty()
     }
 
+    /// Adds one more at the end.
+    pub fn add(&mut self, ty: Tall, name: Option<Word>) -> Result<(), NoMemory>
+        ensures { OnOk result (self.new ≡ and_arg self.old ty name) }
+    {
+        let Tall { ty, levels } = ty;
+        self.items.push(Arg { ty, name })?;
+        self.levels = self.levels.max(levels);
+        Ok(())
+    }
+
     /// The parameters, and one more.
     pub fn with(self, ty: Tall, name: Option<Word>) -> Result<Args, NoMemory>
         ensures { IfOk result (λ ts. ts ≡ and_arg self ty name) }
     {
-        let Args { mut items, levels } = self;
-        let Tall { ty, levels: more } = ty;
-        items.push(Arg { ty, name })?;
-        Ok(Args {
-            items,
-            levels: levels.max(more),
-        })
+        let mut parameters = self;
+        parameters.add(ty, name)?;
+        Ok(parameters)
     }
 }
 
@@ -567,6 +602,14 @@ impl Block {
         ensures { IfOk result (λ b. b ≡ plain.block needed (function_of listed plain.no_block outcome)) }
     {
         let (fun, levels) = function_of(listed, Block::none(), outcome);
+        Block::of_fun(alloc, needed, fun, levels)
+    }
+
+    /// A block of this function, whose tallest type has `levels`.
+    pub fn of_fun(alloc: Global, needed: bool, fun: FunTy, levels: u32) -> Result<Block, NoMemory>
+        requires { levels ≡ capped (fun_height (plain_fun fun)) }
+        ensures { IfOk result (λ b. b ≡ plain.block needed (plain_fun fun)) }
+    {
         Ok(Block {
             item: Some(Boxed::new(alloc, BlockTy { needed, fun })?),
             levels,

@@ -1,0 +1,15 @@
+pub mod MarksRead
+pub mod KeywordsRead
+pub mod TypesFront
+pub mod TypesOpen
+pub mod TypesRead
+pub mod ParamsRead
+pub mod OverloadsRead
+pub mod MethodNamesRead
+pub mod AliasesRead
+pub mod MembersRead
+pub mod NotesRead
+pub mod HeadingsRead
+pub mod PartsRead
+pub mod BodiesRead
+pub mod FileRead

@@ -1,0 +1,50 @@
+//! Files.
+
+ghost use Rattle.std.specs.Prelude.{◌≡◌, ◌<◌, ◌↔◌, [], length, IsTrue, IfOk, OnOk};
+ghost use Rattle.sig_model.specs.PlainDecl.{plain_decls};
+ghost use Rattle.rbs_phrases.specs.Fronts.{whole};
+ghost use Rattle.rbs_declarations.specs.Limits.{IsText};
+ghost use Rattle.rbs_files.specs.Onward.{GrowsFile};
+
+use crate::notes::notes_on;
+use crate::parts::declaration_from;
+use plain_data::Many;
+use rbs_declarations::plain::Decls;
+use rbs_phrases::{Cursor, Unread};
+use rbs_terminals::Terminals;
+use sig_model::decl::Decl;
+use std::alloc::Global;
+
+/// No terminal is left.
+fn at_end(cursor: &Cursor) -> bool
+    ensures { IsTrue result ↔ (cursor.now.rest ≡ []) }
+{
+    cursor.peek().is_none()
+}
+
+/// The declarations, and one more.
+fn further_on(alloc: Global, cursor: &mut Cursor, file: u32, decls: Decls) -> Result<Decls, Unread>
+    ensures phrase { IfOk result (λ ds. GrowsFile 400 file (whole cursor.old).last decls ds cursor.old.rest cursor.new.rest) }
+    ensures kept { OnOk result (whole cursor.new ≡ whole cursor.old) }
+    ensures shorter { OnOk result (length cursor.new.rest < length cursor.old.rest) }
+{
+    let noted = notes_on(alloc, cursor)?;
+    let next = declaration_from(alloc, cursor, file, 400, noted)?;
+    Ok(decls.with(next)?)
+}
+
+/// The declarations that the terminals of a whole file spell, within the limits.
+///
+/// # Errors
+///
+/// `Other` where they spell none, and `NoMemory` where there is none for them.
+pub fn file_on(alloc: Global, file: u32, terminals: Terminals) -> Result<Many<Decl>, Unread>
+    ensures { IfOk result (λ ds. IsText file (plain_decls ds) terminals.entry) }
+{
+    let mut cursor = Cursor::new(terminals)?;
+    let mut decls = Decls::new(alloc);
+    while !at_end(&cursor) {
+        decls = further_on(alloc, &mut cursor, file, decls)?;
+    }
+    Ok(decls.into_items())
+}

@@ -1,0 +1,4 @@
+pub mod Read
+pub mod NamesRead
+pub mod SlotsRead
+pub mod TypesRead

@@ -1,0 +1,4 @@
+pub mod Fronts
+pub mod Uses
+pub mod Slots
+pub mod Items

@@ -1,0 +1,14 @@
+//! Phrases of types, read whole.
+#![tactic(auto)]
+
+mod cursor;
+mod slots;
+mod type_names;
+mod types;
+mod unread;
+
+pub use cursor::{Cursor, is_mark};
+pub use slots::{is_word, word_of};
+pub use type_names::{Use, name_from, name_on, scope_next};
+pub use types::{function_on, type_on, types_on};
+pub use unread::Unread;
