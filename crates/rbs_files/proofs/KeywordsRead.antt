@@ -1,11 +1,10 @@
--- Keywords and marks that were read, or weren't.
+-- Keywords that were read, or weren't.
 use Rattle.std.proofs.Common.{◌≡◌, ◌∙◌, ap, subst, ◌↔◌, IsTrue, Bool, true, false, List, [], ◌∷◌, Some}
 use Rattle.rbs_terminals.specs.declared.token.Token.{Token}
 use Rattle.rbs_terminals.specs.declared.token.Keyword.{Keyword}
-use Rattle.rbs_terminals.specs.declared.token.Mark.{Mark}
 use Rattle.rbs_terminals.specs.declared.token.Kind.TheVariants as kind
 use Rattle.rbs_types.specs.Symbols.{token}
-use Rattle.rbs_phrases.specs.Fronts.{first, Marked, Skips}
+use Rattle.rbs_phrases.specs.Fronts.{first}
 use Rattle.rbs_files.specs.Keywords.{Worded, IsWordNext, SkipsWord}
 
 -- what is said of the next terminal is said of the place
@@ -16,15 +15,6 @@ next_word k b (d ∷ ts) c e h = let same : c ≡ d = cc in subst (λ (t : Token
 -- the keyword that stands next was taken
 pub worded : (k : Keyword) (ts : List Token) (c : Token) (rest : List Token) → ts ≡ c ∷ rest → IsWordNext k ts → Worded k ts rest
 worded k ts c rest e h = (c.spot, e ∙ ap (λ k. token k c.spot ∷ rest) (subst (λ ts. IsWordNext k ts) e h))
-
-module _ (m : Mark) (ts rest : List Token) where
-  pub mark_taken : (b : Bool) → b ≡ true → Skips m b ts rest → Marked m ts rest
-  mark_taken true e h = h
-  mark_taken false e h = absurd (cc)
-
-  pub no_mark : (b : Bool) → b ≡ false → Skips m b ts rest → ts ≡ rest
-  no_mark false e h = h.0
-  no_mark true e h = absurd (cc)
 
 module _ (k : Keyword) (ts rest : List Token) where
   pub word_taken : (b : Bool) → b ≡ true → SkipsWord k b ts rest → Worded k ts rest

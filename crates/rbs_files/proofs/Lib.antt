@@ -1,4 +1,3 @@
-pub mod MarksRead
 pub mod KeywordsRead
 pub mod TypesFront
 pub mod TypesOpen

@@ -1,5 +1,5 @@
 -- Overloads that were read.
-use Rattle.std.proofs.Common.{ℕ, ◌≡◌, ◌≤◌, subst, List, [], ◌∷◌, ◌++◌, arith}
+use Rattle.std.proofs.Common.{ℕ, ◌≤◌, subst, List, [], ◌∷◌, ◌++◌, arith}
 use Rattle.rbs_terminals.specs.declared.token.Token.{Token}
 use Rattle.rbs_terminals.specs.declared.token.Mark.TheVariants as mark
 use Rattle.sig_model.specs.PlainTy.{PlainFun}

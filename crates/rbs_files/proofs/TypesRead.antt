@@ -1,7 +1,6 @@
 -- Types that were read are within the limits.
-use Rattle.std.proofs.Common.{ℕ, ◌+◌, ◌≤◌, ◌≡◌, subst, Bool, true, false, List, arith}
+use Rattle.std.proofs.Common.{ℕ, ◌+◌, ◌≤◌, ◌≡◌, subst, List, arith}
 use Rattle.rbs_terminals.specs.declared.token.Token.{Token}
-use Rattle.rbs_terminals.specs.declared.token.Mark.{Mark}
 use Rattle.rbs_terminals.specs.declared.token.Mark.TheVariants as mark
 use Rattle.sig_model.specs.declared.ty.TypeName.{TypeName}
 use Rattle.sig_model.specs.PlainTy as plain
@@ -10,18 +9,10 @@ use Rattle.sig_model.specs.Height.{height, fun_height}
 use Rattle.rbs_types.specs.Capped.{capped}
 use Rattle.rbs_types.specs.Grammar.{Use, Name, Spells, type, Lists, Function}
 use Rattle.rbs_declarations.specs.Grammar.{unapplied, applied}
-use Rattle.rbs_phrases.specs.Fronts.{Front, whole, Marked, Skips}
+use Rattle.rbs_phrases.specs.Fronts.{Front, whole, Marked}
 use Rattle.rbs_files.specs.Within.{IsType, IsFunction, IsApplied}
 use Rattle.rbs_files.proofs.TypesFront.{before as before_mark, type_front, types_front, function_front}
 use Rattle.rbs_files.proofs.TypesOpen.{open_since, open_inside}
-
-pub was_skipped : (m : Mark) (b : Bool) (ts rest : List Token) → b ≡ true → Skips m b ts rest → Marked m ts rest
-was_skipped m true ts rest e h = h
-was_skipped m false ts rest e h = absurd (cc)
-
-pub not_skipped : (m : Mark) (b : Bool) (ts rest : List Token) → b ≡ false → Skips m b ts rest → ts ≡ rest
-not_skipped m true ts rest e h = absurd (cc)
-not_skipped m false ts rest e h = h.0
 
 pub unapplied_within : (room : ℕ) {u : Use} {n : TypeName} {ts rest : List Token} → Name u n ts rest → IsApplied room u (plain.name n plain.no_tys) ts rest
 unapplied_within room d = (unapplied d, omega arith, omega arith)

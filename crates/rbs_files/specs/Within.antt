@@ -1,5 +1,5 @@
 -- Phrases within the limits: none of their types is higher than 200, and no more than `room` brackets and words are open in them at once.
-use Rattle.std.specs.Prelude.{ℕ, ◌≡◌, ◌≤◌, List, [], ◌∷◌, Option}
+use Rattle.std.specs.Prelude.{ℕ, ◌≤◌, List, [], Option}
 use Rattle.rbs_terminals.specs.declared.token.Token.{Token}
 use Rattle.sig_model.specs.declared.decl.Vis.{Vis}
 use Rattle.sig_model.specs.PlainTy.{PlainTy, PlainTys, PlainFun}

@@ -148,7 +148,7 @@ fn each_production_is_read_by_phrases(rt: HostRuntime) -> Result<(), Fail> {
             "type a = ^(A) { () -> B } -> C type b = _A | c | A::_B | (A)",
             2,
         ),
-        ("type a = 9223372036854775807 A::B: C ::D: E", 3),
+        ("type a = 9223372036854775807 A::B: C\n::D: E", 3),
     ] {
         let found = count_by_phrases(rt.alloc(), text.as_bytes());
         assert_eq!(rt; found, Ok(number), "{text}");

@@ -1,5 +1,5 @@
 -- Names that were read.
-use Rattle.std.proofs.Common.{◌≡◌, refl, sym, ◌∙◌, ap, subst, Bool, true, false, ◌&&◌, List, [], ◌∷◌}
+use Rattle.std.proofs.Common.{◌≡◌, refl, sym, ◌∙◌, ap, subst, true, false, ◌&&◌, List, ◌∷◌}
 use Rattle.rbs_terminals.specs.declared.token.Token.{Token}
 use Rattle.rbs_terminals.specs.declared.token.Spot.{Spot}
 use Rattle.rbs_terminals.specs.declared.token.Kind.{Kind}
@@ -7,8 +7,8 @@ use Rattle.rbs_terminals.specs.declared.token.Kind.TheVariants as kind
 use Rattle.rbs_terminals.specs.declared.token.Mark.TheVariants as mark
 use Rattle.sig_model.specs.declared.ty.TypeName.{TypeName}
 use Rattle.rbs_types.specs.Symbols.{token, sign, on_line, scope_at, scope_follows}
-use Rattle.rbs_types.specs.Parts.{grown, no_name, root}
-use Rattle.rbs_types.specs.Grammar.{Use, ends_capital, Words, capital, interface, small, outer, Name, relative, rooted}
+use Rattle.rbs_types.specs.Parts.{grown, root}
+use Rattle.rbs_types.specs.Grammar.{Use, Words, capital, interface, small, outer, Name, rooted}
 use Rattle.rbs_phrases.specs.Uses.{is_upper, Ends}
 
 -- with its last word

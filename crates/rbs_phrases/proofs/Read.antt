@@ -1,7 +1,6 @@
 -- What was read, where it was.
-use Rattle.std.proofs.Common.{◌≡◌, refl, sym, ◌∙◌, ap, subst, Bool, true, false, ◌&&◌, List, [], ◌∷◌, Result, Ok, Err, IfOk}
+use Rattle.std.proofs.Common.{◌≡◌, ◌∙◌, ap, subst, Bool, true, false, ◌&&◌, List, ◌∷◌, Result, Ok, Err, IfOk}
 use Rattle.rbs_terminals.specs.declared.token.Token.{Token}
-use Rattle.rbs_terminals.specs.declared.token.Kind.TheVariants as kind
 use Rattle.rbs_terminals.specs.declared.token.Mark.{Mark}
 use Rattle.rbs_types.specs.Symbols.{token}
 use Rattle.rbs_phrases.specs.Fronts.{Marked, IsNext, Skips}
@@ -28,3 +27,6 @@ taken m ts rest false e h = absurd (cc)
 pub left : (m : Mark) (ts rest : List Token) (b : Bool) → b ≡ false → Skips m b ts rest → Skips m false ts rest
 left m ts rest true e h = absurd (cc)
 left m ts rest false e h = h
+
+pub untaken : (m : Mark) (ts rest : List Token) (b : Bool) → b ≡ false → Skips m b ts rest → ts ≡ rest
+untaken m ts rest b e h = (left m ts rest b e h).0

@@ -1,5 +1,5 @@
 -- Parameters and keys that were read up to their types.
-use Rattle.std.proofs.Common.{◌≡◌, refl, sym, ◌∙◌, ap, subst, Bool, true, false, not, List, ◌∷◌, Option, Some, None}
+use Rattle.std.proofs.Common.{◌≡◌, refl, subst, Bool, true, false, not, List, ◌∷◌, Some, None}
 use Rattle.rbs_terminals.specs.declared.token.Token.{Token}
 use Rattle.rbs_terminals.specs.declared.token.Spot.{Spot}
 use Rattle.rbs_terminals.specs.declared.token.Kind.{Kind}
@@ -10,10 +10,10 @@ use Rattle.sig_model.specs.PlainTy.{PlainTy, PlainKeys}
 use Rattle.rbs_types.specs.declared.state.Parameters.{Parameters}
 use Rattle.rbs_types.specs.declared.state.Slot.{Slot}
 use Rattle.rbs_types.specs.declared.state.Slot.TheVariants as slot
-use Rattle.rbs_types.specs.Symbols.{token, sign}
+use Rattle.rbs_types.specs.Symbols.{token}
 use Rattle.rbs_types.specs.Plains.{is_new}
 use Rattle.rbs_types.specs.Parts.{takes_optional}
-use Rattle.rbs_types.specs.Grammar.{Spells, type, Argument, unnamed, named, Parameter, positional, optional, rest_of, needed_keyword, optional_keyword, Key, needed_key, optional_key}
+use Rattle.rbs_types.specs.Grammar.{Spells, type, unnamed, named, positional, optional, rest_of, needed_keyword, optional_keyword, needed_key, optional_key}
 use Rattle.rbs_phrases.specs.Fronts.{Marked, Skips}
 use Rattle.rbs_phrases.specs.Slots.{Fills, Slotted, Keyed, asked, takes, slot_of, is_key}
 

@@ -1,10 +1,9 @@
 -- Types that were read.
-use Rattle.std.proofs.Common.{◌≡◌, refl, sym, ◌∙◌, ap, subst, Bool, true, false, List, [], ◌∷◌, Option, Some, None}
+use Rattle.std.proofs.Common.{◌≡◌, refl, sym, ◌∙◌, ap, subst, Bool, true, false, List, [], ◌∷◌, Option, Some}
 use Rattle.rbs_terminals.specs.declared.token.Token.{Token}
 use Rattle.rbs_terminals.specs.declared.token.Spot.{Spot}
 use Rattle.rbs_terminals.specs.declared.token.Kind.{Kind}
 use Rattle.rbs_terminals.specs.declared.token.Kind.TheVariants as kind
-use Rattle.rbs_terminals.specs.declared.token.Keyword.{Keyword}
 use Rattle.rbs_terminals.specs.declared.token.Keyword.TheVariants as keyword
 use Rattle.rbs_terminals.specs.declared.token.Mark.{Mark}
 use Rattle.rbs_terminals.specs.declared.token.Mark.TheVariants as mark
@@ -14,7 +13,6 @@ use Rattle.sig_model.specs.PlainTy.{PlainTy, PlainTys, PlainKeys, PlainFun, Plai
 use Rattle.rbs_types.specs.declared.state.Parameters.{Parameters as Ps}
 use Rattle.rbs_types.specs.declared.state.Listed.{Listed as Ls}
 use Rattle.rbs_types.specs.declared.state.Slot.{Slot}
-use Rattle.rbs_types.specs.declared.state.Slot.TheVariants as slot
 use Rattle.rbs_types.specs.Symbols.{token, sign, word, is_question, question_follows}
 use Rattle.rbs_types.specs.Plains.{and_ty, and_key}
 use Rattle.rbs_types.specs.Parts.{closed, added, nothing_listed, no_parameters, function_of}

@@ -1,5 +1,5 @@
 -- What stands before the type of a parameter or of a key.
-use Rattle.std.specs.Prelude.{ℕ, ◌≡◌, Bool, true, false, if◌then◌else◌, List, ◌∷◌, Option, Some, None}
+use Rattle.std.specs.Prelude.{ℕ, ◌≡◌, Bool, true, false, if◌then◌else◌, List, ◌∷◌, Option, None}
 use Rattle.rbs_terminals.specs.declared.token.Token.{Token}
 use Rattle.rbs_terminals.specs.declared.token.Spot.{Spot}
 use Rattle.rbs_terminals.specs.declared.token.Kind.{Kind}

@@ -1,10 +1,8 @@
 -- What a name may name and how a list is written, in the code and in the grammar, and the last word of a name.
-use Rattle.std.specs.Prelude.{◌≡◌, Bool, true, false, ◌&&◌, List, Option, Some, None}
-use Rattle.rbs_terminals.specs.declared.token.Token.{Token}
+use Rattle.std.specs.Prelude.{◌≡◌, Bool, true, false}
 use Rattle.rbs_terminals.specs.declared.token.Kind.{Kind}
 use Rattle.rbs_terminals.specs.declared.token.Kind.TheVariants as kind
 use Rattle.sig_model.specs.declared.ty.TypeName.{TypeName}
-use Rattle.rbs_types.specs.Symbols.{scope_follows}
 use Rattle.rbs_types.specs.Parts.{grown}
 use Rattle.rbs_types.specs.Grammar as grammar
 use Rattle.rbs_types.specs.Grammar.{ends_capital, ends_interface, ends_small}

@@ -2,7 +2,7 @@ use Rattle.std.proofs.Common.{refl, ◌∙◌, subst, arith}
 use Rattle.rbs_terminals.specs.declared.token.Mark.TheVariants as mark
 use Rattle.sig_model.specs.PlainTy.{PlainTys}
 use Rattle.rbs_files.specs.Onward.{AreSelfTypes}
-use Rattle.rbs_files.proofs.MarksRead.{taken, untaken}
+use Rattle.rbs_phrases.proofs.Read.{taken, untaken}
 use Rattle.rbs_files.proofs.HeadingsRead.{more_follow, none_follows, still_low}
 use Rattle.rbs_files.proofs.headings.self_types_on.Goals as goal
 
@@ -27,10 +27,10 @@ loop-more-preserved c =
     let more = c.loop-more.invariant.further c.loop-more-test.true in
     record {
       further = λ e all rest' d low.
-          let behind = more_follow room before after c.in_ok-ty.ty ts mid rest c.in_ok-ty.ensures.phrase (taken mark.Comma c.in_ok-more.more mid rest e c.in_ok-more.ensures.skipped) c.in_ok-done.ensures all rest' d low in
+          let behind = more_follow room before after c.in_ok-ty.ty ts mid rest c.in_ok-ty.ensures.phrase (taken mark.Comma mid rest c.in_ok-more.more e c.in_ok-more.ensures.skipped) c.in_ok-done.ensures all rest' d low in
           more all rest' behind.0 behind.1;
       all = λ e.
-          let last = none_follows room before after c.in_ok-ty.ty ts mid rest c.in_ok-ty.ensures.phrase (untaken mark.Comma c.in_ok-more.more mid rest e c.in_ok-more.ensures.skipped) c.in_ok-done.ensures in
+          let last = none_follows room before after c.in_ok-ty.ty ts mid rest c.in_ok-ty.ensures.phrase (untaken mark.Comma mid rest c.in_ok-more.more e c.in_ok-more.ensures.skipped) c.in_ok-done.ensures in
           more after rest last.0 last.1;
       low = still_low before after c.in_ok-ty.ty room ts mid c.loop-more.invariant.low c.in_ok-ty.ensures.phrase c.in_ok-done.ensures;
       kept = c.in_ok-more.ensures.kept ∙ c.in_ok-ty.ensures.kept ∙ c.loop-more.invariant.kept;

@@ -4,7 +4,7 @@ use Rattle.sig_model.specs.PlainTy.{PlainFun, plain_fun}
 use Rattle.sig_model.specs.PlainMember.{PlainParam, PlainMethod}
 use Rattle.rbs_files.specs.Within.{IsFunction}
 use Rattle.rbs_files.specs.Parameters.{Overloaded}
-use Rattle.rbs_files.proofs.KeywordsRead.{mark_taken, no_mark}
+use Rattle.rbs_phrases.proofs.Read.{taken, untaken}
 use Rattle.rbs_files.proofs.OverloadsRead.{more_follow, none_follows, not_high}
 use Rattle.rbs_files.proofs.overloads.overloads_on.Goals as goal
 
@@ -33,12 +33,12 @@ loop-more-preserved c =
     record {
       further = λ e all rest h.
           c.loop-more.invariant.further c.loop-more-test.true all rest
-          (more_follow c.args.room before ps f ts mid params all mid' after rest read (mark_taken mark.Bar mid' after c.in_ok-more.more e skipped)
+          (more_follow c.args.room before ps f ts mid params all mid' after rest read (taken mark.Bar mid' after c.in_ok-more.more e skipped)
           (subst (λ (ms : List PlainMethod). Overloaded c.args.room ms all after rest) c.in_ok-done.ensures h));
       all = λ e.
           c.loop-more.invariant.further c.loop-more-test.true c.in_ok-done.done after
           (subst (λ (ms : List PlainMethod). Overloaded c.args.room before ms ts after) (sym c.in_ok-done.ensures)
-          (none_follows c.args.room before ps f ts mid params after (subst (λ mid'. IsFunction c.args.room f mid mid') (no_mark mark.Bar mid' after c.in_ok-more.more e skipped) read)));
+          (none_follows c.args.room before ps f ts mid params after (subst (λ mid'. IsFunction c.args.room f mid mid') (untaken mark.Bar mid' after c.in_ok-more.more e skipped) read)));
       low = rw c.in_ok-done.ensures (not_high before ps f c.loop-more.invariant.low params.2 read.2);
       kept = c.in_ok-more.ensures.kept ∙ c.in_ok-fun.ensures.kept ∙ c.in_ok-params.ensures.kept ∙ c.loop-more.invariant.kept;
       nearer = omega (arith, c.in_ok-more.ensures.shorter, c.in_ok-fun.ensures.shorter, c.in_ok-params.ensures.shorter, c.loop-more.invariant.nearer);

@@ -3,7 +3,7 @@ use Rattle.rbs_terminals.specs.declared.token.Mark.TheVariants as mark
 use Rattle.sig_model.specs.PlainMember.{PlainParam, plain_param}
 use Rattle.rbs_declarations.proofs.Heights.{params_and}
 use Rattle.rbs_files.specs.Parameters.{IsParam, Lengthens}
-use Rattle.rbs_files.proofs.KeywordsRead.{mark_taken, no_mark}
+use Rattle.rbs_phrases.proofs.Read.{taken, untaken}
 use Rattle.rbs_files.proofs.ParamsRead.{more_follow, none_follows}
 use Rattle.rbs_files.proofs.params.param_list_on.Goals as goal
 
@@ -29,12 +29,12 @@ loop-more-preserved c =
     record {
       further = λ e all rest h.
           c.loop-more.invariant.further c.loop-more-test.true all rest
-          (more_follow c.args.room before all p ts mid after rest read (mark_taken mark.Comma mid after c.in_ok-more.more e skipped)
+          (more_follow c.args.room before all p ts mid after rest read (taken mark.Comma mid after c.in_ok-more.more e skipped)
           (subst (λ (ps : List PlainParam). Lengthens c.args.room ps all after rest) c.in_ok-done.ensures h));
       all = λ e.
           c.loop-more.invariant.further c.loop-more-test.true c.in_ok-done.done after
           (subst (λ (ps : List PlainParam). Lengthens c.args.room before ps ts after) (sym c.in_ok-done.ensures)
-          (none_follows c.args.room before p ts after (subst (λ mid. IsParam c.args.room before p ts mid) (no_mark mark.Comma mid after c.in_ok-more.more e skipped) read)));
+          (none_follows c.args.room before p ts after (subst (λ mid. IsParam c.args.room before p ts mid) (untaken mark.Comma mid after c.in_ok-more.more e skipped) read)));
       low = rw c.in_ok-done.ensures (omega (arith, params_and before p, c.loop-more.invariant.low, read.3));
       kept = c.in_ok-more.ensures.kept ∙ c.in_ok-param.ensures.kept ∙ c.loop-more.invariant.kept;
       nearer = omega (arith, c.in_ok-more.ensures.shorter, c.in_ok-param.ensures.shorter, c.loop-more.invariant.nearer);

@@ -1,4 +1,4 @@
-use Rattle.std.proofs.Common.{◌≡◌, sym, ◌∙◌}
+use Rattle.std.proofs.Common.{sym, ◌∙◌}
 use Rattle.rbs_phrases.proofs.SlotsRead.{named_slot, unnamed_slot}
 use Rattle.rbs_phrases.proofs.slots.name_behind.Goals as goal
 

@@ -1,4 +1,4 @@
-use Rattle.std.proofs.Common.{◌≡◌, sym, ◌∙◌, subst, ◌∷◌}
+use Rattle.std.proofs.Common.{sym, ◌∙◌, subst, ◌∷◌}
 use Rattle.rbs_types.specs.declared.state.Slot.{Slot}
 use Rattle.rbs_types.specs.declared.state.Slot.TheVariants as slot
 use Rattle.rbs_types.specs.Symbols.{token}

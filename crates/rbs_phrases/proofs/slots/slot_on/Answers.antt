@@ -1,4 +1,4 @@
-use Rattle.std.proofs.Common.{◌≡◌, sym, ◌∙◌, ap, subst, ◌∷◌, false, true}
+use Rattle.std.proofs.Common.{sym, ◌∙◌, ap, subst, ◌∷◌}
 use Rattle.rbs_types.specs.Symbols.{token}
 use Rattle.rbs_phrases.specs.Slots.{Slotted}
 use Rattle.rbs_phrases.proofs.Read.{if_ok}

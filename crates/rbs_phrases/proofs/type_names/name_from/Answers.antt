@@ -1,8 +1,5 @@
-use Rattle.std.proofs.Common.{◌≡◌, sym, ◌∙◌, subst, ◌∷◌}
-use Rattle.rbs_types.specs.Symbols.{token}
-use Rattle.rbs_types.specs.Parts.{root, no_name}
-use Rattle.rbs_types.specs.Grammar.{Words, relative}
-use Rattle.rbs_phrases.specs.Uses.{use_of}
+use Rattle.std.proofs.Common.{sym}
+use Rattle.rbs_types.specs.Grammar.{relative}
 use Rattle.rbs_phrases.proofs.Read.{if_ok}
 use Rattle.rbs_phrases.proofs.NamesRead.{rooted_name}
 use Rattle.rbs_phrases.proofs.type_names.name_from.Goals as goal

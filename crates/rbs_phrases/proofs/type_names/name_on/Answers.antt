@@ -1,4 +1,3 @@
-use Rattle.std.proofs.Common.{◌≡◌, sym, ◌∙◌, subst, ◌∷◌}
 use Rattle.rbs_phrases.proofs.Read.{if_ok}
 use Rattle.rbs_phrases.proofs.type_names.name_on.Goals as goal
 

@@ -1,5 +1,4 @@
-use Rattle.std.proofs.Common.{◌≡◌, sym, ◌∙◌, ap, subst, List, ◌∷◌}
-use Rattle.rbs_terminals.specs.declared.token.Token.{Token}
+use Rattle.std.proofs.Common.{sym, subst, ◌∷◌}
 use Rattle.rbs_terminals.specs.declared.token.Kind.{Kind}
 use Rattle.sig_model.specs.declared.ty.TypeName.{TypeName}
 use Rattle.rbs_types.specs.Symbols.{token}

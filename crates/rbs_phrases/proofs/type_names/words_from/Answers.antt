@@ -1,4 +1,4 @@
-use Rattle.std.proofs.Common.{◌≡◌, sym, ◌∙◌}
+use Rattle.std.proofs.Common.{sym, ◌∙◌}
 use Rattle.rbs_phrases.specs.Uses.{use_of}
 use Rattle.rbs_phrases.proofs.Read.{if_ok}
 use Rattle.rbs_phrases.proofs.NamesRead.{last_word}

@@ -1,4 +1,4 @@
-use Rattle.std.proofs.Common.{ℕ, ◌≡◌, ◌≤◌, List, ◌∷◌, length}
+use Rattle.std.proofs.Common.{◌≡◌, ◌≤◌, List, ◌∷◌, length}
 use Rattle.rbs_terminals.specs.declared.token.Token.{Token}
 use Rattle.rbs_terminals.specs.declared.token.Spot.{Spot}
 use Rattle.sig_model.specs.declared.ty.TypeName.{TypeName}

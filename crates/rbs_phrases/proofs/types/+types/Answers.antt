@@ -1,22 +1,12 @@
-use Rattle.std.proofs.Common.{◌≡◌, ◌≤◌, ◌<◌, refl, sym, ◌∙◌, ap, subst, true, false, List, ◌∷◌, length, arith}
-use Rattle.rbs_terminals.specs.declared.token.Token.{Token}
-use Rattle.rbs_terminals.specs.declared.token.Spot.{Spot}
-use Rattle.rbs_terminals.specs.declared.token.Kind.TheVariants as kind
+use Rattle.std.proofs.Common.{sym, ◌∙◌, ap, subst, ◌∷◌, arith}
 use Rattle.rbs_terminals.specs.declared.token.Mark.TheVariants as mark
-use Rattle.sig_model.specs.PlainTy as plain
-use Rattle.sig_model.specs.PlainTy.{PlainTy, PlainTys, PlainKeys, PlainBlock, PlainFun}
+use Rattle.sig_model.specs.PlainTy.{PlainFun}
 use Rattle.sig_model.specs.Height.{fun_height}
 use Rattle.rbs_types.specs.Capped.{capped}
-use Rattle.rbs_types.specs.declared.state.Slot.TheVariants as slot
-use Rattle.rbs_types.specs.declared.state.Listed.{Listed as Ls}
-use Rattle.rbs_types.specs.declared.state.Parameters.{Parameters as Ps}
 use Rattle.rbs_types.specs.Symbols.{token}
-use Rattle.rbs_types.specs.Parts.{no_parameters, nothing_listed}
 use Rattle.rbs_types.specs.Plains.{and_ty}
-use Rattle.rbs_types.specs.Grammar.{Spells, Lists, type, inter, opt, simple, result, lone_inter, lone_opt, proc, Listed, Parameters, Braced, Blocked}
-use Rattle.rbs_phrases.specs.Fronts.{Marked, Skips}
+use Rattle.rbs_types.specs.Grammar.{Spells, Lists, type, inter, opt, result, lone_inter, lone_opt, proc}
 use Rattle.rbs_phrases.specs.Items.{sort_of}
-use Rattle.rbs_phrases.specs.Slots.{Slotted}
 use Rattle.rbs_phrases.proofs.Read.{if_ok, taken, left}
 use Rattle.rbs_phrases.proofs.TypesRead as read
 use Rattle.rbs_phrases.proofs.types.+types.Goals as goal

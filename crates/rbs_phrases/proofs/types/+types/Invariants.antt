@@ -1,4 +1,4 @@
-use Rattle.std.proofs.Common.{ℕ, ◌≡◌, ◌+◌, ◌*◌, ◌≤◌, ◌<◌, ◌∷◌, List, length, Bool, true, false}
+use Rattle.std.proofs.Common.{◌≡◌, ◌+◌, ◌*◌, ◌≤◌, ◌<◌, List, length, true, false}
 use Rattle.rbs_terminals.specs.declared.token.Token.{Token}
 use Rattle.sig_model.specs.PlainTy as plain
 use Rattle.sig_model.specs.PlainTy.{PlainTys, PlainKeys}

@@ -1,4 +1,4 @@
-use Rattle.std.proofs.Common.{◌≡◌, sym, ◌∙◌, ap, subst, ◌∷◌}
+use Rattle.std.proofs.Common.{sym, ◌∙◌}
 use Rattle.rbs_types.specs.Grammar.{base}
 use Rattle.rbs_phrases.proofs.types.keyword_from.Goals as goal
 

@@ -1,4 +1,4 @@
-use Rattle.std.proofs.Common.{subst, true, false}
+use Rattle.std.proofs.Common.{subst}
 use Rattle.rbs_terminals.specs.declared.token.Mark.TheVariants as mark
 use Rattle.rbs_types.specs.Grammar.{Spells, opt, lone_simple}
 use Rattle.rbs_phrases.proofs.Read.{taken, left}

@@ -1,4 +1,3 @@
-use Rattle.std.proofs.Common.{◌≡◌, sym, ◌∙◌, ap, subst, List, ◌∷◌}
 use Rattle.rbs_phrases.proofs.Read.{marked}
 use Rattle.rbs_phrases.proofs.cursor.Cursor.skip.Goals as goal
 
