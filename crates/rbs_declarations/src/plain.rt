@@ -1,14 +1,16 @@
 //! Lists of the parts of declarations, which contracts see as plain data.
 #![tactic(auto, using(crate::proofs::Pushed::pushed))]
 
-ghost use Rattle.std.specs.Prelude.{◌≡◌, [], ◌∷◌, ◌++◌, IfOk};
+ghost use Rattle.std.specs.Prelude.{◌≡◌, [], ◌∷◌, ◌++◌, IfOk, OnOk};
 ghost use Rattle.sig_model.specs.PlainTy.{plain_fun};
 ghost use Rattle.sig_model.specs.PlainMember.{plain_param, plain_params, plain_methods, plain_member};
 ghost use Rattle.sig_model.specs.PlainDecl as decl;
 ghost use Rattle.sig_model.specs.PlainDecl.{plain_decl, plain_decls, plain_parts};
+ghost use Rattle.rbs_types.specs.Parts.{function_with};
 ghost use Rattle.rbs_declarations.specs.Grammar.{is_new_param, and_inner, and_member, and_decl};
 
 use plain_data::{Many, NoMemory, Word};
+use rbs_types::{FunctionHead, Tall};
 use sig_model::decl::{Decl, Member, MethodTy, Notes, Part, TyParam};
 use sig_model::place::Place;
 use sig_model::ty::FunTy;
@@ -120,13 +122,21 @@ impl Params {
         }
     }
 
+    /// Adds one more at the end.
+    pub fn add(&mut self, param: TyParam) -> Result<(), NoMemory>
+        ensures { OnOk result (self.new ≡ self.old ++ plain_param param ∷ []) }
+    {
+        self.items.push(param)?;
+        Ok(())
+    }
+
     /// The parameters, and one more.
     pub fn with(self, param: TyParam) -> Result<Params, NoMemory>
         ensures { IfOk result (λ ps. ps ≡ self ++ plain_param param ∷ []) }
     {
-        let Params { mut items } = self;
-        items.push(param)?;
-        Ok(Params { items })
+        let mut params = self;
+        params.add(param)?;
+        Ok(params)
     }
 
     /// No parameter has this name.
@@ -160,6 +170,17 @@ impl Methods {
         }
     }
 
+    /// Adds one more: the function with this head and this result.
+    pub fn add(&mut self, params: Params, head: FunctionHead, outcome: Tall) -> Result<(), NoMemory>
+        ensures { OnOk result (self.new ≡ self.old ++ record { params = params; fun = function_with head outcome } ∷ []) }
+    {
+        let Params { items: params } = params;
+        self.items.push(MethodTy {
+            params,
+            fun: head.with_result(outcome),
+        })
+    }
+
     /// The overloads, and one more.
     pub fn with(self, params: Params, fun: FunTy) -> Result<Methods, NoMemory>
         ensures { IfOk result (λ ms. ms ≡ self ++ record { params = params; fun = plain_fun fun } ∷ []) }
@@ -189,26 +210,42 @@ impl Parts {
         }
     }
 
+    /// Adds one more declaration at the end.
+    pub fn add_inner(&mut self, inner: Decl) -> Result<(), NoMemory>
+        ensures { OnOk result (self.new ≡ and_inner self.old (plain_decl inner)) }
+    {
+        self.items.push(Part::Inner(inner))?;
+        Ok(())
+    }
+
+    /// Adds one more member at the end.
+    pub fn add_member(&mut self, place: Place, notes: Notes, member: Member) -> Result<(), NoMemory>
+        ensures { OnOk result (self.new ≡ and_member self.old place notes (plain_member member)) }
+    {
+        self.items.push(Part::Member {
+            place,
+            notes,
+            member,
+        })?;
+        Ok(())
+    }
+
     /// The parts, and one more declaration.
     pub fn with_inner(self, inner: Decl) -> Result<Parts, NoMemory>
         ensures { IfOk result (λ ps. ps ≡ and_inner self (plain_decl inner)) }
     {
-        let Parts { mut items } = self;
-        items.push(Part::Inner(inner))?;
-        Ok(Parts { items })
+        let mut parts = self;
+        parts.add_inner(inner)?;
+        Ok(parts)
     }
 
     /// The parts, and one more member.
     pub fn with_member(self, place: Place, notes: Notes, member: Member) -> Result<Parts, NoMemory>
         ensures { IfOk result (λ ps. ps ≡ and_member self place notes (plain_member member)) }
     {
-        let Parts { mut items } = self;
-        items.push(Part::Member {
-            place,
-            notes,
-            member,
-        })?;
-        Ok(Parts { items })
+        let mut parts = self;
+        parts.add_member(place, notes, member)?;
+        Ok(parts)
     }
 
     /// The parts, moved.
@@ -230,13 +267,21 @@ impl Decls {
         }
     }
 
+    /// Adds one more at the end.
+    pub fn add(&mut self, last: Decl) -> Result<(), NoMemory>
+        ensures { OnOk result (self.new ≡ and_decl self.old (plain_decl last)) }
+    {
+        self.items.push(last)?;
+        Ok(())
+    }
+
     /// The declarations, and one more.
     pub fn with(self, last: Decl) -> Result<Decls, NoMemory>
         ensures { IfOk result (λ ds. ds ≡ and_decl self (plain_decl last)) }
     {
-        let Decls { mut items } = self;
-        items.push(last)?;
-        Ok(Decls { items })
+        let mut decls = self;
+        decls.add(last)?;
+        Ok(decls)
     }
 
     /// The declarations, moved.

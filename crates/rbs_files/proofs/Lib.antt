@@ -1,4 +1,5 @@
 pub mod KeywordsRead
+pub mod Following
 pub mod TypesFront
 pub mod TypesOpen
 pub mod TypesRead

@@ -19,6 +19,11 @@ abbrev pub mark_at : Kind → Spot → Option Mark
 mark_at (kind.Mark m) s = mark_if (is_joined s) m
 mark_at _ s = None
 
+-- the next terminal stands directly behind the one before it
+abbrev pub joined_next : List Token → Bool
+joined_next [] = false
+joined_next (c ∷ ts) = is_joined c.spot
+
 -- the mark that comes next, directly behind the terminal before it
 abbrev pub joined_mark : List Token → Option Mark
 joined_mark [] = None

@@ -13,8 +13,8 @@ use rbs_phrases::Cursor;
 pub fn end_here(cursor: &Cursor) -> u32
     ensures { result ≡ end_at (whole cursor.now).last cursor.now.rest }
 {
-    match cursor.peek() {
-        Some(token) => token.spot.before,
+    match cursor.before() {
+        Some(end) => end,
         None => cursor.end(),
     }
 }

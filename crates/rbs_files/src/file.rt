@@ -19,18 +19,24 @@ use std::alloc::Global;
 fn at_end(cursor: &Cursor) -> bool
     ensures { IsTrue result ↔ (cursor.now.rest ≡ []) }
 {
-    cursor.peek().is_none()
+    cursor.sort().is_none()
 }
 
-/// The declarations, and one more.
-fn further_on(alloc: Global, cursor: &mut Cursor, file: u32, decls: Decls) -> Result<Decls, Unread>
-    ensures phrase { IfOk result (λ ds. GrowsFile 400 file (whole cursor.old).last decls ds cursor.old.rest cursor.new.rest) }
+/// Adds one more to the declarations.
+fn further_on(
+    alloc: Global,
+    cursor: &mut Cursor,
+    file: u32,
+    decls: &mut Decls,
+) -> Result<(), Unread>
+    ensures phrase { OnOk result (GrowsFile 400 file (whole cursor.old).last decls.old decls.new cursor.old.rest cursor.new.rest) }
     ensures kept { OnOk result (whole cursor.new ≡ whole cursor.old) }
     ensures shorter { OnOk result (length cursor.new.rest < length cursor.old.rest) }
 {
     let noted = notes_on(alloc, cursor)?;
     let next = declaration_from(alloc, cursor, file, 400, noted)?;
-    Ok(decls.with(next)?)
+    decls.add(next)?;
+    Ok(())
 }
 
 /// The declarations that the terminals of a whole file spell, within the limits.
@@ -41,10 +47,10 @@ fn further_on(alloc: Global, cursor: &mut Cursor, file: u32, decls: Decls) -> Re
 pub fn file_on(alloc: Global, file: u32, terminals: Terminals) -> Result<Many<Decl>, Unread>
     ensures { IfOk result (λ ds. IsText file (plain_decls ds) terminals.entry) }
 {
-    let mut cursor = Cursor::new(terminals)?;
+    let mut cursor = Cursor::new(terminals);
     let mut decls = Decls::new(alloc);
     while !at_end(&cursor) {
-        decls = further_on(alloc, &mut cursor, file, decls)?;
+        further_on(alloc, &mut cursor, file, &mut decls)?;
     }
     Ok(decls.into_items())
 }

@@ -10,7 +10,6 @@ ghost use Rattle.sig_model.specs.PlainTy.{PlainTy};
 ghost use Rattle.sig_model.specs.PlainMember as plain;
 ghost use Rattle.sig_model.specs.PlainMember.{plain_member};
 ghost use Rattle.rbs_types.specs.Symbols.{token, word};
-ghost use Rattle.rbs_types.specs.Symbols as symbols;
 ghost use Rattle.rbs_phrases.specs.Fronts.{whole};
 ghost use Rattle.rbs_phrases.specs.Uses.{use_of};
 ghost use Rattle.rbs_declarations.specs.Words as words;
@@ -25,8 +24,8 @@ use crate::types::{applied_on, type_on};
 use plain_data::Word;
 use rbs_declarations::built::{method_alias, mixin, section, variable};
 use rbs_declarations::words::{mixin_of, takes_vis, vis_of};
-use rbs_phrases::{Cursor, Unread, Use};
-use rbs_terminals::{Gap, Keyword, Kind, Mark, Spot};
+use rbs_phrases::{Cursor, Unread, Use, on_line_next};
+use rbs_terminals::{Keyword, Kind, Mark};
 use sig_model::decl::{Member, MixKind, Vis};
 use std::alloc::Global;
 
@@ -119,21 +118,12 @@ fn unseen_from(
     }
 }
 
-fn is_on_line(spot: &Spot) -> bool
-    ensures { result ≡ symbols.on_line spot.now }
-{
-    match spot.gap {
-        Gap::Line => false,
-        Gap::Joined | Gap::Blank => true,
-    }
-}
-
 /// A visibility that was taken last belongs to the member that follows on its line.
 fn vis_belongs(cursor: &Cursor) -> bool
     ensures { result ≡ words.vis_belongs cursor.now.rest }
 {
-    match cursor.peek() {
-        Some(token) => is_on_line(&token.spot) && takes_vis(&token.kind),
+    match cursor.keyword() {
+        Some(keyword) => on_line_next(cursor) && takes_vis(&Kind::Keyword(keyword)),
         None => false,
     }
 }

@@ -11,35 +11,30 @@ ghost use Rattle.rbs_declarations.specs.Grammar.{Marks, Single, MethodName};
 ghost use Rattle.rbs_files.specs.Behind as behind;
 
 use plain_data::Word;
-use rbs_declarations::operators::{Operator, begun_by, is_operator, operator_text};
-use rbs_declarations::words::{ending_of, extended_at, is_joined, is_keyword, method_word};
+use rbs_declarations::operators::{Operator, begun_by, extended, is_operator, operator_text};
+use rbs_declarations::words::{ending_of, is_keyword, method_word};
 use rbs_phrases::{Cursor, Unread, scope_next};
-use rbs_terminals::{Keyword, Kind, Mark, Token};
+use rbs_terminals::{Gap, Keyword, Kind, Mark};
 use std::alloc::Global;
 
 /// The mark that stands directly behind the terminal that was taken last, if one does.
 pub fn joined_mark(cursor: &Cursor) -> Option<Mark>
     ensures { result ≡ behind.joined_mark cursor.now.rest }
 {
-    match cursor.peek() {
-        Some(token) => mark_at(token),
-        None => None,
+    if joined_next(cursor) {
+        cursor.mark()
+    } else {
+        None
     }
 }
 
-/// The mark that this terminal is, where it stands directly behind the one before it.
-fn mark_at(token: &Token) -> Option<Mark>
-    ensures { result ≡ behind.mark_at token.now.kind token.now.spot }
+/// The next terminal stands directly behind the one before it.
+fn joined_next(cursor: &Cursor) -> bool
+    ensures { result ≡ behind.joined_next cursor.now.rest }
 {
-    match &token.kind {
-        Kind::Mark(mark) => {
-            if is_joined(&token.spot) {
-                Some(*mark)
-            } else {
-                None
-            }
-        }
-        _ => None,
+    match cursor.gap() {
+        Some(Gap::Joined) => true,
+        Some(Gap::Blank | Gap::Line) | None => false,
     }
 }
 
@@ -47,8 +42,8 @@ fn mark_at(token: &Token) -> Option<Mark>
 fn extension(cursor: &Cursor, operator: Operator) -> Option<Operator>
     ensures { result ≡ words.extension operator cursor.now.rest }
 {
-    match cursor.peek() {
-        Some(token) => extended_at(operator, &token.kind, &token.spot),
+    match joined_mark(cursor) {
+        Some(mark) => extended(operator, mark),
         None => None,
     }
 }

@@ -1,7 +1,6 @@
 //! The comments and the annotations before a declaration or a member.
 
 ghost use Rattle.std.specs.Prelude.{◌≡◌, ◌<◌, [], ◌∷◌, length, IfOk, OnOk};
-ghost use Rattle.rbs_terminals.specs.declared.token.Token.{Token};
 ghost use Rattle.rbs_terminals.specs.declared.token.Spot.{Spot};
 ghost use Rattle.rbs_types.specs.Symbols.{token};
 ghost use Rattle.rbs_phrases.specs.Fronts.{whole};
@@ -10,7 +9,7 @@ ghost use Rattle.rbs_files.specs.Onward.{IsNoted, Annotated};
 
 use plain_data::Many;
 use rbs_phrases::{Cursor, Unread};
-use rbs_terminals::{Kind, Token};
+use rbs_terminals::{Kind, Lead};
 use sig_model::decl::Notes;
 use std::alloc::Global;
 
@@ -32,13 +31,18 @@ fn first_on(alloc: Global, cursor: &mut Cursor) -> Result<Noted, Unread>
     ensures kept { OnOk result (whole cursor.new ≡ whole cursor.old) }
     ensures shorter { OnOk result (length cursor.new.rest < length cursor.old.rest) }
 {
-    let Token { kind, spot } = cursor.next()?;
+    let Lead {
+        kind,
+        start,
+        comments,
+        ..
+    } = cursor.lead()?;
     Ok(Noted {
         notes: Notes {
-            comments: spot.comments,
+            comments,
             annotations: Many::new(alloc),
         },
-        start: spot.start,
+        start,
         kind,
     })
 }
@@ -59,13 +63,13 @@ fn further_on(cursor: &mut Cursor, noted: Noted) -> Result<Noted, Unread>
         mut annotations,
     } = notes;
     annotations.push(text)?;
-    let Token { kind, spot } = cursor.next()?;
+    let Lead { kind, start, .. } = cursor.lead()?;
     Ok(Noted {
         notes: Notes {
             comments,
             annotations,
         },
-        start: spot.start,
+        start,
         kind,
     })
 }

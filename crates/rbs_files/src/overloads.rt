@@ -9,6 +9,7 @@ use crate::types::function_on;
 use rbs_declarations::plain::Methods;
 use rbs_phrases::{Cursor, Unread};
 use rbs_terminals::Mark;
+use rbs_types::FunctionHead;
 use std::alloc::Global;
 
 /// The overloads of a method, with a `|` between them.
@@ -21,8 +22,9 @@ pub fn overloads_on(alloc: Global, cursor: &mut Cursor, room: u32) -> Result<Met
     let mut more = true;
     while more {
         let params = params_on(alloc, cursor, room)?;
-        let fun = function_on(alloc, cursor, room)?;
-        done = done.with(params, fun)?;
+        let mut head = FunctionHead::new(alloc);
+        let outcome = function_on(alloc, cursor, room, &mut head)?;
+        done.add(params, head, outcome)?;
         more = cursor.skip(Mark::Bar)?;
     }
     Ok(done)

@@ -27,11 +27,8 @@ use std::alloc::Global;
 fn variance_next(cursor: &Cursor) -> Option<Variance>
     ensures { result ≡ variance_next cursor.now.rest }
 {
-    match cursor.peek() {
-        Some(token) => match &token.kind {
-            Kind::Keyword(keyword) => variance_of(*keyword),
-            _ => None,
-        },
+    match cursor.keyword() {
+        Some(keyword) => variance_of(keyword),
         None => None,
     }
 }
@@ -125,7 +122,7 @@ fn param_list_on(alloc: Global, cursor: &mut Cursor, room: u32) -> Result<Params
     let mut more = true;
     while more {
         let param = param_on(alloc, cursor, &done, room)?;
-        done = done.with(param)?;
+        done.add(param)?;
         more = cursor.skip(Mark::Comma)?;
     }
     Ok(done)

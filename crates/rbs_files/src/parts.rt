@@ -12,13 +12,13 @@ ghost use Rattle.rbs_files.specs.Onward.{IsNoted, Ended, GrowsParts, GrowsInterf
 
 use crate::ends::end_here;
 use crate::headings::{class_heading_on, interface_heading_on, module_heading_on};
+use crate::keywords::{keyword_next, skip_keyword};
 use crate::members::{interface_member_from, member_from};
 use crate::notes::{Noted, notes_on};
 use crate::params::params_on;
 use crate::types::type_on;
 use rbs_declarations::built::{class, constant, interface, module, type_alias};
 use rbs_declarations::plain::Parts;
-use rbs_declarations::words::is_keyword;
 use rbs_phrases::{Cursor, Unread, Use, name_from, name_on};
 use rbs_terminals::{Keyword, Kind, Mark};
 use sig_model::decl::{Decl, DeclBody};
@@ -27,10 +27,7 @@ use std::alloc::Global;
 
 /// The word `end` follows.
 fn end_next(cursor: &Cursor) -> bool {
-    match cursor.peek() {
-        Some(token) => is_keyword(&token.kind, Keyword::End),
-        None => false,
-    }
+    keyword_next(cursor, Keyword::End)
 }
 
 /// The word `end`, and where it ends.
@@ -39,9 +36,8 @@ fn end_on(cursor: &mut Cursor) -> Result<u32, Unread>
     ensures kept { OnOk result (whole cursor.new ≡ whole cursor.old) }
     ensures shorter { OnOk result (length cursor.new.rest < length cursor.old.rest) }
 {
-    let token = cursor.next()?;
-    if is_keyword(&token.kind, Keyword::End) {
-        Ok(token.spot.end)
+    if skip_keyword(cursor, Keyword::End)? {
+        Ok(cursor.end())
     } else {
         Err(Unread::Other)
     }
@@ -57,41 +53,41 @@ fn begins_body(kind: &Kind) -> bool {
     }
 }
 
-/// The parts, and a member behind its notes.
+/// Adds a member behind its notes to the parts.
 fn member_part_from(
     alloc: Global,
     cursor: &mut Cursor,
     file: u32,
     room: u32,
-    parts: Parts,
+    parts: &mut Parts,
     noted: Noted,
-) -> Result<Parts, Unread>
-    ensures phrase { (ts : List Token) → IsNoted noted cursor.old.end ts cursor.old.rest → IfOk result (λ ps. GrowsParts room file (whole cursor.old).last parts ps ts cursor.new.rest) }
+) -> Result<(), Unread>
+    ensures phrase { (ts : List Token) → IsNoted noted cursor.old.end ts cursor.old.rest → OnOk result (GrowsParts room file (whole cursor.old).last parts.old parts.new ts cursor.new.rest) }
     ensures kept { OnOk result (whole cursor.new ≡ whole cursor.old) }
     ensures shorter { OnOk result (length cursor.new.rest ≤ length cursor.old.rest) }
 {
     let Noted { notes, start, kind } = noted;
     let (member, end) = member_from(alloc, cursor, room, kind)?;
-    let place = Place { file, start, end };
-    Ok(parts.with_member(place, notes, member)?)
+    parts.add_member(Place { file, start, end }, notes, member)?;
+    Ok(())
 }
 
-/// The parts of an interface, and one more.
+/// Adds one more to the parts of an interface.
 fn interface_part_on(
     alloc: Global,
     cursor: &mut Cursor,
     file: u32,
     room: u32,
-    parts: Parts,
-) -> Result<Parts, Unread>
-    ensures phrase { IfOk result (λ ps. GrowsInterface room file (whole cursor.old).last parts ps cursor.old.rest cursor.new.rest) }
+    parts: &mut Parts,
+) -> Result<(), Unread>
+    ensures phrase { OnOk result (GrowsInterface room file (whole cursor.old).last parts.old parts.new cursor.old.rest cursor.new.rest) }
     ensures kept { OnOk result (whole cursor.new ≡ whole cursor.old) }
     ensures shorter { OnOk result (length cursor.new.rest < length cursor.old.rest) }
 {
     let Noted { notes, start, kind } = notes_on(alloc, cursor)?;
     let (member, end) = interface_member_from(alloc, cursor, room, kind)?;
-    let place = Place { file, start, end };
-    Ok(parts.with_member(place, notes, member)?)
+    parts.add_member(Place { file, start, end }, notes, member)?;
+    Ok(())
 }
 
 /// The parts of an interface, up to its `end`.
@@ -107,7 +103,7 @@ fn interface_parts_on(
 {
     let mut parts = Parts::new(alloc);
     while !end_next(cursor) {
-        parts = interface_part_on(alloc, cursor, file, room, parts)?;
+        interface_part_on(alloc, cursor, file, room, &mut parts)?;
     }
     Ok(parts)
 }
@@ -248,23 +244,24 @@ pub fn declaration_from(
     })
 }
 
-/// The parts of a class or a module, and one more.
+/// Adds one more to the parts of a class or a module.
 #[cycle(parts)]
 fn part_on(
     alloc: Global,
     cursor: &mut Cursor,
     file: u32,
     room: u32,
-    parts: Parts,
-) -> Result<Parts, Unread>
-    ensures phrase { IfOk result (λ ps. GrowsParts room file (whole cursor.old).last parts ps cursor.old.rest cursor.new.rest) }
+    parts: &mut Parts,
+) -> Result<(), Unread>
+    ensures phrase { OnOk result (GrowsParts room file (whole cursor.old).last parts.old parts.new cursor.old.rest cursor.new.rest) }
     ensures kept { OnOk result (whole cursor.new ≡ whole cursor.old) }
     ensures shorter { OnOk result (length cursor.new.rest < length cursor.old.rest) }
 {
     let noted = notes_on(alloc, cursor)?;
     if begins_body(&noted.kind) {
         let inner = declaration_from(alloc, cursor, file, room, noted)?;
-        Ok(parts.with_inner(inner)?)
+        parts.add_inner(inner)?;
+        Ok(())
     } else {
         member_part_from(alloc, cursor, file, room, parts, noted)
     }
@@ -279,7 +276,7 @@ fn parts_on(alloc: Global, cursor: &mut Cursor, file: u32, room: u32) -> Result<
 {
     let mut parts = Parts::new(alloc);
     while !end_next(cursor) {
-        parts = part_on(alloc, cursor, file, room, parts)?;
+        part_on(alloc, cursor, file, room, &mut parts)?;
     }
     Ok(parts)
 }

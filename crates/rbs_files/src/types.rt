@@ -1,16 +1,15 @@
 //! Types within the limits.
 
 ghost use Rattle.std.specs.Prelude.{◌≡◌, ◌≤◌, ◌<◌, ◌+◌, length, true, IfOk, OnOk};
-ghost use Rattle.sig_model.specs.PlainTy.{plain_fun};
 ghost use Rattle.sig_model.specs.Height.{height};
+ghost use Rattle.rbs_types.specs.Parts.{no_parameters, function_with};
 ghost use Rattle.rbs_phrases.specs.Fronts.{whole};
 ghost use Rattle.rbs_phrases.specs.Uses.{use_of};
 ghost use Rattle.rbs_files.specs.Within.{IsType, IsFunction, IsApplied};
 
 use rbs_phrases::{Cursor, Unread, Use, name_on, types_on};
 use rbs_terminals::Mark;
-use rbs_types::{Tall, Talls};
-use sig_model::ty::FunTy;
+use rbs_types::{FunctionHead, Tall, Talls};
 use std::alloc::Global;
 
 /// The most that a type is high.
@@ -45,16 +44,22 @@ pub fn type_on(alloc: Global, cursor: &mut Cursor, room: u32) -> Result<Tall, Un
     within(cursor, before, room, ty)
 }
 
-/// The parameters, the block and the result of a method.
-pub fn function_on(alloc: Global, cursor: &mut Cursor, room: u32) -> Result<FunTy, Unread>
-    ensures phrase { IfOk result (λ f. IsFunction room (plain_fun f) cursor.old.rest cursor.new.rest) }
+/// The parameters and the block of a method, which go into its head, and its result.
+pub fn function_on(
+    alloc: Global,
+    cursor: &mut Cursor,
+    room: u32,
+    head: &mut FunctionHead,
+) -> Result<Tall, Unread>
+    requires { head.old.parameters ≡ no_parameters }
+    ensures phrase { IfOk result (λ outcome. IsFunction room (function_with head.new outcome) cursor.old.rest cursor.new.rest) }
     ensures kept { OnOk result (whole cursor.new ≡ whole cursor.old) }
     ensures shorter { OnOk result (length cursor.new.rest < length cursor.old.rest) }
 {
     let before = cursor.opened();
-    let (fun, levels) = rbs_phrases::function_on(alloc, cursor)?;
-    if fits(cursor, before, room, levels) {
-        Ok(fun)
+    let outcome = rbs_phrases::function_on(alloc, cursor, head)?;
+    if fits(cursor, before, room, head.levels(&outcome)) {
+        Ok(outcome)
     } else {
         Err(Unread::Other)
     }

@@ -1,3 +1,4 @@
+pub mod AheadRead
 pub mod Read
 pub mod NamesRead
 pub mod SlotsRead

@@ -1,5 +1,5 @@
 -- What stands at a place in the terminals of a text, and what stays the same of it as terminals are taken.
-use Rattle.std.specs.Prelude.{ℕ, ◌≡◌, ◌+◌, Bool, true, false, ◌&&◌, List, [], ◌∷◌, Option, Some, None}
+use Rattle.std.specs.Prelude.{ℕ, ◌≡◌, ◌+◌, Bool, true, false, ◌&&◌, List, [], ◌∷◌}
 use Rattle.rbs_terminals.specs.declared.token.Token.{Token}
 use Rattle.rbs_terminals.specs.declared.token.Spot.{Spot}
 use Rattle.rbs_terminals.specs.declared.token.Mark.{Mark}
@@ -13,11 +13,6 @@ pub record Front : Type 0 where
   pub rest : List Token
   pub end : ℕ
   pub opened : ℕ
-
--- the next terminal
-abbrev pub first : List Token → Option Token
-first [] = None
-first (c ∷ ts) = Some c
 
 abbrev pub opens_by : Kind → ℕ
 opens_by (kind.Mark mark.Open) = 1
@@ -57,9 +52,6 @@ whole f = record { opens = f.opened + opens f.rest; last = end_behind f.end f.re
 -- the mark stands next, and these behind it
 abbrev pub Marked : Mark → List Token → List Token → Type 0
 Marked m ts rest = (s : Spot) × (ts ≡ sign m s ∷ rest)
-
-abbrev pub is_mark : Mark → Kind → Type 0
-is_mark m k = k ≡ kind.Mark m
 
 -- the mark stands next
 abbrev pub IsNext : Mark → List Token → Type 0

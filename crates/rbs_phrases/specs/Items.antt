@@ -23,5 +23,5 @@ literal_of (kind.Symbol w) = Some (plain.sym w)
 literal_of _ = None
 
 -- all parameters, from those without the rest of the keywords and that
-abbrev pub listed : Parameters × PlainRest → Listed
-listed l = record { parameters = l.0; key_rest = l.1 }
+abbrev pub listed : Parameters → PlainRest → Listed
+listed p r = record { parameters = p; key_rest = r }

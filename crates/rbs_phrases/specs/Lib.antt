@@ -1,4 +1,5 @@
 pub mod Fronts
+pub mod Ahead
 pub mod Uses
 pub mod Slots
 pub mod Items

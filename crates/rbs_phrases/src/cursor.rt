@@ -1,58 +1,85 @@
 //! A place in the terminals of a text.
 
-ghost use Rattle.std.specs.Prelude.{◌≡◌, ◌≤◌, ◌<◌, ◌↔◌, [], ◌∷◌, length, Some, IfOk, IfSome, IsTrue, OnOk, MatchOption};
-ghost use Rattle.std.specs.Option.{option_copied};
+ghost use Rattle.std.specs.Prelude.{◌≡◌, ◌≤◌, ◌<◌, ◌+◌, ◌↔◌, ◌∷◌, length, Some, true, IfOk, IsTrue, OnOk};
 ghost use Rattle.rbs_terminals.specs.declared.token.Kind.TheVariants as kinds;
 ghost use Rattle.rbs_terminals.specs.declared.token.Token.{Token};
 ghost use Rattle.rbs_terminals.specs.declared.token.Spot.{Spot};
+ghost use Rattle.rbs_terminals.specs.Sorts.{next_sort, next_gap, next_before};
 ghost use Rattle.rbs_types.specs.Symbols.{token};
-ghost use Rattle.rbs_phrases.specs.Fronts.{first, whole, opens_by, is_small_kind, Marked, IsNext, Skips};
+ghost use Rattle.rbs_phrases.specs.Fronts.{whole, Marked, IsNext, Skips};
+ghost use Rattle.rbs_phrases.specs.Ahead.{opens_by_sort, is_small_sort, mark_of, keyword_of, next_mark, next_keyword};
 
 use crate::unread::Unread;
-use rbs_terminals::{Kind, Mark, Terminals, Token};
+use rbs_terminals::{Gap, Keyword, Kind, Lead, Mark, Sort, Terminals};
 use std::marker::Model;
-use std::mem;
 
-/// A place in the terminals of a text: those to come, of which the first is known, where the last one ends that was taken, and how many
+/// A place in the terminals of a text: those to come, what the first of them is, where the last one ends that was taken, and how many
 /// brackets were opened by those that were taken.
 #[derive(Drop)]
 pub struct Cursor<'a> {
     terminals: Terminals<'a>,
-    ahead: Option<Token>,
+    ahead: Option<Sort>,
     end: u32,
     opened: u32,
 }
 
 impl<'a> Model for Cursor<'a> {
-    ghost use Rattle.std.specs.Prelude.{◌≡◌, ◌++◌, [], None};
-    ghost use Rattle.std.specs.Option.{option_to_list};
+    ghost use Rattle.std.specs.Prelude.{◌≡◌};
+    ghost use Rattle.rbs_terminals.specs.Sorts.{next_sort};
     ghost use Rattle.rbs_phrases.specs.Fronts.{Front};
 
     ghost Value = { Front };
 
-    ghost view = { λ c. record { rest = option_to_list c.ahead ++ c.terminals; end = c.end; opened = c.opened } };
+    ghost view = { λ c. record { rest = c.terminals; end = c.end; opened = c.opened } };
 
-    ghost invariant = { λ c. c.ahead ≡ None → c.terminals ≡ [] };
+    ghost invariant = { λ c. c.ahead ≡ next_sort c.terminals };
 }
 
-/// How many brackets a terminal opens.
-fn opens_by(kind: &Kind) -> u32
-    ensures value { result ≡ opens_by kind.now }
-    ensures few { result ≤ 1 }
+/// How many brackets are opened, these and that which a terminal of this sort opens.
+///
+/// # Errors
+///
+/// `Other` at an integer past 64 bits, which is never taken.
+fn opened_by(before: u32, sort: Sort) -> Result<u32, Unread>
+    ensures opened { IfOk result (λ opened. opened ≡ before + opens_by_sort sort) }
+    ensures small { OnOk result (is_small_sort sort ≡ true) }
 {
-    match kind {
-        Kind::Mark(Mark::Open | Mark::OpenSquare | Mark::OpenBrace) => 1,
-        _ => 0,
+    match sort {
+        Sort::Mark(Mark::Open | Mark::OpenSquare | Mark::OpenBrace) => {
+            before.checked_add(1).ok_or(Unread::Other)
+        }
+        Sort::PastInteger => Err(Unread::Other),
+        _ => Ok(before),
     }
 }
 
-/// The terminal is no integer past 64 bits.
-fn is_small(kind: &Kind) -> bool
-    ensures { result ≡ is_small_kind kind.now }
+/// The mark that is next, if one is.
+fn mark_of(ahead: Option<Sort>) -> Option<Mark>
+    ensures { result ≡ mark_of ahead }
 {
-    match kind {
-        Kind::PastInteger => false,
-        _ => true,
+    match ahead {
+        Some(Sort::Mark(mark)) => Some(mark),
+        _ => None,
+    }
+}
+
+/// This mark is next.
+fn is_ahead(ahead: Option<Sort>, mark: Mark) -> bool
+    ensures { IsTrue result ↔ (mark_of ahead ≡ Some mark) }
+{
+    match ahead {
+        Some(Sort::Mark(found)) => found == mark,
+        _ => false,
+    }
+}
+
+/// The keyword that is next, if one is.
+fn keyword_of(ahead: Option<Sort>) -> Option<Keyword>
+    ensures { result ≡ keyword_of ahead }
+{
+    match ahead {
+        Some(Sort::Keyword(keyword)) => Some(keyword),
+        _ => None,
     }
 }
 
@@ -68,24 +95,51 @@ pub fn is_mark(kind: &Kind, mark: Mark) -> bool
 
 impl<'a> Cursor<'a> {
     /// Before all of these terminals.
-    pub fn new(terminals: Terminals<'a>) -> Result<Cursor<'a>, Unread>
-        ensures { IfOk result (λ c. c ≡ record { rest = terminals.entry; end = 0; opened = 0 }) }
+    pub fn new(terminals: Terminals<'a>) -> Cursor<'a>
+        ensures { result ≡ record { rest = terminals.entry; end = 0; opened = 0 } }
     {
-        let mut terminals = terminals;
-        let ahead = terminals.next()?;
-        Ok(Cursor {
+        let ahead = terminals.sort();
+        Cursor {
             terminals,
             ahead,
             end: 0,
             opened: 0,
-        })
+        }
     }
 
-    /// The next terminal, or `None` behind the last one.
-    pub fn peek(&self) -> Option<&Token>
-        ensures { option_copied result ≡ first self.now.rest }
+    /// What the next terminal is, but for its text or its value, or `None` behind the last one.
+    pub fn sort(&self) -> Option<Sort>
+        ensures { result ≡ next_sort self.now.rest }
     {
-        self.ahead.as_ref()
+        self.ahead
+    }
+
+    /// The mark that is next, if one is.
+    pub fn mark(&self) -> Option<Mark>
+        ensures { result ≡ next_mark self.now.rest }
+    {
+        mark_of(self.ahead)
+    }
+
+    /// The keyword that is next, if one is.
+    pub fn keyword(&self) -> Option<Keyword>
+        ensures { result ≡ next_keyword self.now.rest }
+    {
+        keyword_of(self.ahead)
+    }
+
+    /// What stands between the next terminal and the one before it, or `None` behind the last one.
+    pub fn gap(&self) -> Option<Gap>
+        ensures { result ≡ next_gap self.now.rest }
+    {
+        self.terminals.gap()
+    }
+
+    /// Where the terminal before the next one ends, or `None` behind the last one.
+    pub fn before(&self) -> Option<u32>
+        ensures { result ≡ next_before self.now.rest }
+    {
+        self.terminals.before()
     }
 
     /// Where the last terminal ends that was taken, 0 where none was.
@@ -102,45 +156,49 @@ impl<'a> Cursor<'a> {
         self.opened
     }
 
-    /// Takes the next terminal.
+    /// Takes the next terminal, and answers it as it leads a phrase.
     ///
     /// # Errors
     ///
-    /// `Other` behind the last one, and at an integer past 64 bits; `NoMemory` where there is none for the terminal behind it.
-    pub fn next(&mut self) -> Result<Token, Unread>
-        ensures next { IfOk result (λ c. self.old.rest ≡ c ∷ self.new.rest) }
-        ensures end { IfOk result (λ c. self.new.end ≡ c.spot.end) }
+    /// `Other` behind the last one, and at an integer past 64 bits; `NoMemory` where there is none for it.
+    pub fn lead(&mut self) -> Result<Lead, Unread>
+        ensures next { IfOk result (λ l. (s : Spot) × (self.old.rest ≡ token l.kind s ∷ self.new.rest) × (l.start ≡ s.start) × (l.comments ≡ s.comments) × (self.new.end ≡ s.end)) }
         ensures kept { OnOk result (whole self.new ≡ whole self.old) }
         ensures shorter { OnOk result (length self.new.rest < length self.old.rest) }
     {
-        let Some(token) = &self.ahead else {
+        let Some(sort) = self.ahead else {
             return Err(Unread::Other);
         };
-        let opened = opens_by(&token.kind);
-        if !is_small(&token.kind) || self.opened == u32::MAX {
+        let opened = opened_by(self.opened, sort)?;
+        let Some(lead) = self.terminals.lead(sort)? else {
             return Err(Unread::Other);
-        }
-        let end = token.spot.end;
-        let next = self.terminals.next()?;
-        self.end = end;
-        self.opened += opened;
-        match mem::replace(&mut self.ahead, next) {
-            Some(token) => Ok(token),
-            None => Err(Unread::Other),
-        }
+        };
+        self.ahead = self.terminals.sort();
+        self.end = lead.end;
+        self.opened = opened;
+        Ok(lead)
     }
 
     /// Takes the next terminal, and answers what it is.
     ///
     /// # Errors
     ///
-    /// As [`Cursor::next`].
+    /// As [`Cursor::lead`].
     pub fn kind(&mut self) -> Result<Kind, Unread>
         ensures next { IfOk result (λ k. (s : Spot) × (self.old.rest ≡ token k s ∷ self.new.rest)) }
         ensures kept { OnOk result (whole self.new ≡ whole self.old) }
         ensures shorter { OnOk result (length self.new.rest < length self.old.rest) }
     {
-        let Token { kind, .. } = self.next()?;
+        let Some(sort) = self.ahead else {
+            return Err(Unread::Other);
+        };
+        let opened = opened_by(self.opened, sort)?;
+        let Some((kind, end)) = self.terminals.take(sort)? else {
+            return Err(Unread::Other);
+        };
+        self.ahead = self.terminals.sort();
+        self.end = end;
+        self.opened = opened;
         Ok(kind)
     }
 
@@ -148,13 +206,22 @@ impl<'a> Cursor<'a> {
     ///
     /// # Errors
     ///
-    /// As [`Cursor::next`].
+    /// `Other` behind the last one, and at an integer past 64 bits.
     pub fn pass(&mut self) -> Result<(), Unread>
-        ensures next { OnOk result ((c : Token) × (self.old.rest ≡ c ∷ self.new.rest)) }
+        ensures next { OnOk result ((c : Token) × (self.old.rest ≡ c ∷ self.new.rest) × (self.new.end ≡ c.spot.end)) }
         ensures kept { OnOk result (whole self.new ≡ whole self.old) }
         ensures shorter { OnOk result (length self.new.rest < length self.old.rest) }
     {
-        self.next()?;
+        let Some(sort) = self.ahead else {
+            return Err(Unread::Other);
+        };
+        let opened = opened_by(self.opened, sort)?;
+        let Some(end) = self.terminals.pass() else {
+            return Err(Unread::Other);
+        };
+        self.ahead = self.terminals.sort();
+        self.end = end;
+        self.opened = opened;
         Ok(())
     }
 
@@ -162,17 +229,14 @@ impl<'a> Cursor<'a> {
     pub fn is_next(&self, mark: Mark) -> bool
         ensures { IsTrue result ↔ IsNext mark self.now.rest }
     {
-        match &self.ahead {
-            Some(token) => is_mark(&token.kind, mark),
-            None => false,
-        }
+        is_ahead(self.ahead, mark)
     }
 
     /// Takes the next terminal if it is this mark, and answers whether it did.
     ///
     /// # Errors
     ///
-    /// `NoMemory` where there is none for the terminal behind it.
+    /// `Other` where one bracket more can't be counted.
     pub fn skip(&mut self, mark: Mark) -> Result<bool, Unread>
         ensures skipped { IfOk result (λ skipped. Skips mark skipped self.old.rest self.new.rest) }
         ensures kept { OnOk result (whole self.new ≡ whole self.old) }
@@ -190,7 +254,7 @@ impl<'a> Cursor<'a> {
     ///
     /// # Errors
     ///
-    /// `Other` where it isn't, and `NoMemory` where there is none for the terminal behind it.
+    /// `Other` where it isn't.
     pub fn expect(&mut self, mark: Mark) -> Result<(), Unread>
         ensures marked { OnOk result (Marked mark self.old.rest self.new.rest) }
         ensures kept { OnOk result (whole self.new ≡ whole self.old) }

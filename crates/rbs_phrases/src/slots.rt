@@ -16,7 +16,7 @@ ghost use Rattle.rbs_phrases.specs.Slots.{Fills, Slotted, Keyed, asked, is_word}
 use crate::cursor::{Cursor, is_mark};
 use crate::unread::Unread;
 use plain_data::Word;
-use rbs_terminals::{Kind, Mark, lower_of};
+use rbs_terminals::{Kind, Mark, Sort, lower_of};
 use rbs_types::{Keys, Parameters, Slot, takes_optional, takes_positional};
 use std::alloc::Global;
 
@@ -137,10 +137,7 @@ pub fn slot_on(
 
 /// The next terminal is a word.
 fn word_next(cursor: &Cursor) -> bool {
-    match cursor.peek() {
-        Some(token) => is_word(&token.kind),
-        None => false,
-    }
+    matches!(cursor.sort(), Some(Sort::Lower | Sort::Keyword(_)))
 }
 
 fn is_key(slot: &Slot) -> bool

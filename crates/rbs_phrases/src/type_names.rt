@@ -4,15 +4,16 @@ ghost use Rattle.std.specs.Prelude.{◌≡◌, ◌≤◌, ◌<◌, ◌&&◌, ◌
 ghost use Rattle.rbs_terminals.specs.declared.token.Token.{Token};
 ghost use Rattle.rbs_terminals.specs.declared.token.Spot.{Spot};
 ghost use Rattle.sig_model.specs.declared.ty.TypeName.{TypeName};
-ghost use Rattle.rbs_types.specs.Symbols.{token, scope_at, scope_follows};
+ghost use Rattle.rbs_types.specs.Symbols.{token, scope_follows};
 ghost use Rattle.rbs_types.specs.Grammar as grammar;
 ghost use Rattle.rbs_types.specs.Grammar.{Words, Name};
 ghost use Rattle.rbs_phrases.specs.Fronts.{whole};
+ghost use Rattle.rbs_phrases.specs.Ahead.{on_line_next};
 ghost use Rattle.rbs_phrases.specs.Uses.{use_of, is_upper, Ends};
 
 use crate::cursor::{Cursor, is_mark};
 use crate::unread::Unread;
-use rbs_terminals::{Gap, Kind, Mark, Spot};
+use rbs_terminals::{Gap, Kind, Mark};
 use rbs_types::{grown, no_name, root};
 use sig_model::ty::TypeName;
 use std::alloc::Global;
@@ -58,16 +59,13 @@ impl Use {
     }
 }
 
-/// The terminal is a `::` on the line of the one before it.
-fn is_scope(kind: &Kind, spot: &Spot) -> bool
-    ensures { result ≡ scope_at kind.now spot.now }
+/// The next terminal stands on the line of the one before it.
+pub fn on_line_next(cursor: &Cursor) -> bool
+    ensures { result ≡ on_line_next cursor.now.rest }
 {
-    match kind {
-        Kind::Mark(Mark::Scope) => match spot.gap {
-            Gap::Line => false,
-            Gap::Joined | Gap::Blank => true,
-        },
-        _ => false,
+    match cursor.gap() {
+        Some(Gap::Joined | Gap::Blank) => true,
+        Some(Gap::Line) | None => false,
     }
 }
 
@@ -75,10 +73,7 @@ fn is_scope(kind: &Kind, spot: &Spot) -> bool
 pub fn scope_next(cursor: &Cursor) -> bool
     ensures { result ≡ scope_follows cursor.now.rest }
 {
-    match cursor.peek() {
-        Some(token) => is_scope(&token.kind, &token.spot),
-        None => false,
-    }
+    cursor.is_next(Mark::Scope) && on_line_next(cursor)
 }
 
 fn is_upper(kind: &Kind) -> bool

@@ -10,9 +10,6 @@ ghost use Rattle.sig_model.specs.PlainTy as plain;
 ghost use Rattle.rbs_types.specs.Symbols.{token};
 ghost use Rattle.rbs_types.specs.Parts as parts;
 ghost use Rattle.rbs_types.specs.Grammar as grammar;
-ghost use Rattle.sig_model.specs.PlainTy.{plain_fun};
-ghost use Rattle.sig_model.specs.Height.{fun_height};
-ghost use Rattle.rbs_types.specs.Capped.{capped};
 ghost use Rattle.rbs_types.specs.Grammar.{Spells, Lists};
 ghost use Rattle.rbs_phrases.specs.Fronts.{whole};
 ghost use Rattle.rbs_phrases.specs.Items.{sort_of, literal_of, listed};
@@ -22,8 +19,7 @@ use crate::slots::{key_on, name_behind, slot_on};
 use crate::type_names::{Use, name_from, name_on};
 use crate::unread::Unread;
 use rbs_terminals::{Keyword, Kind, Mark, base_of};
-use rbs_types::{Block, Keys, Parameters, Rest, Slot, Tall, Talls, add, fun_of, none_yet};
-use sig_model::ty::FunTy;
+use rbs_types::{Block, FunctionHead, Keys, Parameters, Rest, Slot, Tall, Talls, add, none_yet};
 use std::alloc::Global;
 
 /// How many types may stand in one another, functions' results among them. A type that is deeper isn't read, so that the recursion stays
@@ -273,13 +269,7 @@ fn union_behind(alloc: Global, cursor: &mut Cursor, depth: u32, first: Tall) -> 
 
 /// The next terminal goes on with a type.
 fn operator_next(cursor: &Cursor) -> bool {
-    match cursor.peek() {
-        Some(token) => matches!(
-            token.kind,
-            Kind::Mark(Mark::Question | Mark::Amp | Mark::Bar)
-        ),
-        None => false,
-    }
+    matches!(cursor.mark(), Some(Mark::Question | Mark::Amp | Mark::Bar))
 }
 
 /// What goes on with this type, which was read.
@@ -362,52 +352,59 @@ fn list_on(
     Ok(done)
 }
 
-/// The parameters of a function or a block, behind the parenthesis, and the rest of the keywords.
+/// The parameters of a function or a block, behind the parenthesis. What is answered is the rest of the keywords.
 #[cycle(types)]
 fn parameters_on(
     alloc: Global,
     cursor: &mut Cursor,
     depth: u32,
-) -> Result<(Parameters, Rest), Unread>
-    ensures phrase { IfOk result (λ l. grammar.Parameters parts.no_parameters (listed l) cursor.old.rest cursor.new.rest) }
+    done: &mut Parameters,
+) -> Result<Rest, Unread>
+    requires { done.old ≡ parts.no_parameters }
+    ensures phrase { IfOk result (λ rest. grammar.Parameters parts.no_parameters (listed done.new rest) cursor.old.rest cursor.new.rest) }
     ensures kept { OnOk result (whole cursor.new ≡ whole cursor.old) }
     ensures shorter { OnOk result (length cursor.new.rest < length cursor.old.rest) }
 {
-    let mut done = none_yet(alloc);
     let mut more = true;
     while more && !cursor.is_next(Mark::DoubleStar) {
-        let (slot, kind) = slot_on(alloc, cursor, &done)?;
+        let (slot, kind) = slot_on(alloc, cursor, done)?;
         let ty = type_from(alloc, cursor, depth, kind)?;
         let name = name_behind(alloc, cursor, &slot)?;
-        add(alloc, &mut done, slot, ty, name)?;
+        add(alloc, done, slot, ty, name)?;
         more = cursor.skip(Mark::Comma)?;
     }
     if !more {
-        return Ok((done, Rest::none()));
+        return Ok(Rest::none());
     }
     cursor.expect(Mark::DoubleStar)?;
     let kind = cursor.kind()?;
     let ty = type_from(alloc, cursor, depth, kind)?;
     let name = name_behind(alloc, cursor, &Slot::KeyRest)?;
-    Ok((done, Rest::of(alloc, ty, name)?))
+    Ok(Rest::of(alloc, ty, name)?)
 }
 
-/// The parameters of a function or a block, with their parentheses, or none; and the rest of the keywords.
+/// The parameters of a function or a block, with their parentheses, or none. What is answered is the rest of the keywords.
 #[cycle(types)]
-fn listed_on(alloc: Global, cursor: &mut Cursor, depth: u32) -> Result<(Parameters, Rest), Unread>
-    ensures phrase { IfOk result (λ l. grammar.Listed (listed l) cursor.old.rest cursor.new.rest) }
+fn listed_on(
+    alloc: Global,
+    cursor: &mut Cursor,
+    depth: u32,
+    done: &mut Parameters,
+) -> Result<Rest, Unread>
+    requires { done.old ≡ parts.no_parameters }
+    ensures phrase { IfOk result (λ rest. grammar.Listed (listed done.new rest) cursor.old.rest cursor.new.rest) }
     ensures kept { OnOk result (whole cursor.new ≡ whole cursor.old) }
     ensures shorter { OnOk result (length cursor.new.rest ≤ length cursor.old.rest) }
 {
     if !cursor.skip(Mark::Open)? {
-        return Ok((none_yet(alloc), Rest::none()));
+        return Ok(Rest::none());
     }
     if cursor.skip(Mark::Close)? {
-        return Ok((none_yet(alloc), Rest::none()));
+        return Ok(Rest::none());
     }
-    let listed = parameters_on(alloc, cursor, depth)?;
+    let key_rest = parameters_on(alloc, cursor, depth, done)?;
     cursor.expect(Mark::Close)?;
-    Ok(listed)
+    Ok(key_rest)
 }
 
 /// A block behind its brace.
@@ -417,13 +414,19 @@ fn braced_on(alloc: Global, cursor: &mut Cursor, depth: u32, needed: bool) -> Re
     ensures kept { OnOk result (whole cursor.new ≡ whole cursor.old) }
     ensures shorter { OnOk result (length cursor.new.rest ≤ length cursor.old.rest) }
 {
-    let (parameters, key_rest) = listed_on(alloc, cursor, depth)?;
+    let mut parameters = none_yet(alloc);
+    let key_rest = listed_on(alloc, cursor, depth, &mut parameters)?;
     cursor.expect(Mark::Arrow)?;
     let kind = cursor.kind()?;
     let outcome = outcome_from(alloc, cursor, depth, kind)?;
     cursor.expect(Mark::CloseBrace)?;
-    let (fun, levels) = fun_of(parameters, key_rest, Block::none(), outcome);
-    Ok(Block::of_fun(alloc, needed, fun, levels)?)
+    let head = FunctionHead {
+        parameters,
+        key_rest,
+        block: Block::none(),
+    };
+    let levels = head.levels(&outcome);
+    Ok(Block::of_fun(alloc, needed, head.with_result(outcome), levels)?)
 }
 
 /// The block of a function, or none.
@@ -443,20 +446,24 @@ fn block_on(alloc: Global, cursor: &mut Cursor, depth: u32) -> Result<Block, Unr
     }
 }
 
-/// The parameters, the block and the result of a function, with the height of its tallest type, as far as heights are told apart.
+/// The parameters and the block of a function, which go into its head, and its result.
 #[cycle(types)]
-fn function_from(alloc: Global, cursor: &mut Cursor, depth: u32) -> Result<(FunTy, u32), Unread>
-    ensures phrase { IfOk result (λ found. grammar.Function (plain_fun found.0) cursor.old.rest cursor.new.rest) }
-    ensures levels { IfOk result (λ found. found.1 ≡ capped (fun_height (plain_fun found.0))) }
+fn function_from(
+    alloc: Global,
+    cursor: &mut Cursor,
+    depth: u32,
+    head: &mut FunctionHead,
+) -> Result<Tall, Unread>
+    requires { head.old.parameters ≡ parts.no_parameters }
+    ensures phrase { IfOk result (λ outcome. grammar.Function (parts.function_with head.new outcome) cursor.old.rest cursor.new.rest) }
     ensures kept { OnOk result (whole cursor.new ≡ whole cursor.old) }
     ensures shorter { OnOk result (length cursor.new.rest < length cursor.old.rest) }
 {
-    let (parameters, key_rest) = listed_on(alloc, cursor, depth)?;
-    let block = block_on(alloc, cursor, depth)?;
+    head.key_rest = listed_on(alloc, cursor, depth, &mut head.parameters)?;
+    head.block = block_on(alloc, cursor, depth)?;
     cursor.expect(Mark::Arrow)?;
     let kind = cursor.kind()?;
-    let outcome = outcome_from(alloc, cursor, depth, kind)?;
-    Ok(fun_of(parameters, key_rest, block, outcome))
+    outcome_from(alloc, cursor, depth, kind)
 }
 
 /// A proc type, behind its mark.
@@ -466,8 +473,10 @@ fn proc_on(alloc: Global, cursor: &mut Cursor, depth: u32) -> Result<Tall, Unrea
     ensures kept { OnOk result (whole cursor.new ≡ whole cursor.old) }
     ensures shorter { OnOk result (length cursor.new.rest ≤ length cursor.old.rest) }
 {
-    let (fun, levels) = function_from(alloc, cursor, depth)?;
-    Ok(Tall::of_fun(alloc, fun, levels)?)
+    let mut head = FunctionHead::new(alloc);
+    let outcome = function_from(alloc, cursor, depth, &mut head)?;
+    let levels = head.levels(&outcome);
+    Ok(Tall::of_fun(alloc, head.with_result(outcome), levels)?)
 }
 
 /// A type.
@@ -498,16 +507,20 @@ pub fn types_on(alloc: Global, cursor: &mut Cursor) -> Result<Talls, Unread>
     list_on(alloc, cursor, DEEPEST, Item::Type, Mark::Comma, none)
 }
 
-/// The parameters, the block and the result of a function, with the height of its tallest type, as far as heights are told apart.
+/// The parameters and the block of a function, which go into its head, and its result.
 ///
 /// # Errors
 ///
 /// As [`type_on`].
-pub fn function_on(alloc: Global, cursor: &mut Cursor) -> Result<(FunTy, u32), Unread>
-    ensures phrase { IfOk result (λ found. grammar.Function (plain_fun found.0) cursor.old.rest cursor.new.rest) }
-    ensures levels { IfOk result (λ found. found.1 ≡ capped (fun_height (plain_fun found.0))) }
+pub fn function_on(
+    alloc: Global,
+    cursor: &mut Cursor,
+    head: &mut FunctionHead,
+) -> Result<Tall, Unread>
+    requires { head.old.parameters ≡ parts.no_parameters }
+    ensures phrase { IfOk result (λ outcome. grammar.Function (parts.function_with head.new outcome) cursor.old.rest cursor.new.rest) }
     ensures kept { OnOk result (whole cursor.new ≡ whole cursor.old) }
     ensures shorter { OnOk result (length cursor.new.rest < length cursor.old.rest) }
 {
-    function_from(alloc, cursor, DEEPEST)
+    function_from(alloc, cursor, DEEPEST, head)
 }

@@ -2,4 +2,5 @@ pub mod Keywords
 pub mod Marks
 pub mod Values
 pub mod Kinds
+pub mod Sorts
 pub mod Terminals

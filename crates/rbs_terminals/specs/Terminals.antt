@@ -10,6 +10,7 @@ use Rattle.rbs_lexer.specs.Division.{IsFit, whole, IsDivided}
 use Rattle.rbs_terminals.specs.declared.token.Gap.{Gap}
 use Rattle.rbs_terminals.specs.declared.token.Gap.TheVariants as gap
 use Rattle.rbs_terminals.specs.declared.token.Token.{Token}
+use Rattle.rbs_terminals.specs.declared.lead.Lead.{Lead}
 use Rattle.rbs_terminals.specs.declared.before.Before.{Before}
 use Rattle.rbs_terminals.specs.Kinds.{kind_at}
 
@@ -55,9 +56,12 @@ behind_comment bytes before t =
       comments = if begins_line bytes before t.place.start then carried bytes before t.place.start ++ drop 1 (text_of bytes t) ∷ [] else [];
     }
 
--- Behind any other token.
+-- Behind any other token, by where it ends.
+abbrev pub behind : ℕ → Before
+behind end = record { last = Some end; end = end; comments = [] }
+
 abbrev pub behind_token : SigToken → Before
-behind_token t = record { last = Some t.place.end; end = t.place.end; comments = [] }
+behind_token t = behind t.place.end
 
 -- the terminal that a token is which isn't a comment
 abbrev pub terminal_at : List ℕ → Before → SigToken → Token
@@ -66,6 +70,20 @@ terminal_at bytes before t =
       kind = kind_at t.kind (text_of bytes t);
       spot = record { before = end_or_start before.last; gap = gap_at bytes before.last t.place.start; start = t.place.start; end = t.place.end; comments = carried bytes before t.place.start };
     }
+
+-- the terminal leads a phrase: what it is, where it stands and the comments that it carries
+abbrev pub Leads : Lead → Token → Type 0
+Leads lead c = (lead.kind ≡ c.kind) × (lead.start ≡ c.spot.start) × (lead.end ≡ c.spot.end) × (lead.comments ≡ c.spot.comments)
+
+-- the first token that is no comment
+abbrev pub first_token : List SigToken → Option SigToken
+first_token [] = None
+first_token (t ∷ ts) = if is_comment t.kind then first_token ts else Some t
+
+-- the tokens behind it
+abbrev pub behind_first : List SigToken → List SigToken
+behind_first [] = []
+behind_first (t ∷ ts) = if is_comment t.kind then behind_first ts else ts
 
 -- the terminals that these tokens are, behind what was read before
 abbrev pub terminals_from : List ℕ → Before → List SigToken → List Token
@@ -94,3 +112,8 @@ pub record StandsFrom (bytes : List ℕ) (at : ℕ) (t : SigToken) : Type 0 wher
 abbrev pub AllStand : List ℕ → ℕ → List SigToken → Type 0
 AllStand bytes at [] = Unit {0}
 AllStand bytes at (t ∷ ts) = StandsFrom bytes at t × AllStand bytes t.place.end ts
+
+-- no comment comes first
+abbrev pub begins_uncommented : List SigToken → Bool
+begins_uncommented [] = true
+begins_uncommented (t ∷ ts) = if is_comment t.kind then false else true

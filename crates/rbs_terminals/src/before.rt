@@ -1,9 +1,13 @@
 //! What stands before a place in a text.
 
 ghost use Rattle.std.specs.Prelude.{◌≡◌, ◌≤◌, ◌||◌, ◌==◌, nat_lt, true, length, IfOk, OnErr, OnOk, IfSome};
+ghost use Rattle.rbs_terminals.specs.Kinds.{kind_at};
+ghost use Rattle.rbs_terminals.specs.Sorts.{sort_of};
 ghost use Rattle.rbs_terminals.specs.Terminals as at;
 
 use crate::kinds::kind_of;
+use crate::lead::Lead;
+use crate::sorts::{Sort, kind_by};
 use crate::token::{Gap, Spot, Token};
 use crate::values::word_of;
 use plain_data::{Many, NoMemory, Word};
@@ -22,7 +26,7 @@ pub struct Before {
     pub comments: Many<Word>,
 }
 
-fn text_of<'a>(bytes: &'a [u8], token: &SigToken) -> &'a [u8]
+pub fn text_of<'a>(bytes: &'a [u8], token: &SigToken) -> &'a [u8]
     requires order { token.now.place.start ≤ token.now.place.end }
     requires within { token.now.place.end ≤ length bytes.now }
     ensures { result.now ≡ at.text_of bytes.now token.now }
@@ -49,7 +53,7 @@ fn begins_line(end: u32, lines: usize) -> bool
 }
 
 /// The gap before a token, by where the terminal before it ends.
-fn gap_at(bytes: &[u8], last: Option<u32>, start: u32) -> Gap
+pub fn gap_at(bytes: &[u8], last: Option<u32>, start: u32) -> Gap
     requires order { IfSome last (λ end. end ≤ start) }
     requires within { start ≤ length bytes.now }
     ensures { result ≡ at.gap_at bytes.now last start }
@@ -68,7 +72,7 @@ fn gap_at(bytes: &[u8], last: Option<u32>, start: u32) -> Gap
     }
 }
 
-fn end_or_start(last: Option<u32>) -> u32
+pub fn end_or_start(last: Option<u32>) -> u32
     ensures { result ≡ at.end_or_start last }
 {
     match last {
@@ -118,6 +122,36 @@ impl Before {
         Ok(())
     }
 
+    /// Passes a token that is no comment and ends there.
+    pub fn pass_end(&mut self, alloc: Global, end: u32)
+        ensures { self.new ≡ at.behind end }
+    {
+        self.last = Some(end);
+        self.end = end;
+        if !self.comments.is_empty() {
+            self.comments = Many::new(alloc);
+        }
+    }
+
+    /// Passes a token that is no comment and stands there, and answers the comments that it carries.
+    fn pass_carrying(&mut self, alloc: Global, bytes: &[u8], start: u32, end: u32) -> Many<Word>
+        requires order { self.old.end ≤ start }
+        requires within { start ≤ length bytes.now }
+        ensures comments { result ≡ at.carried bytes.now self.old start }
+        ensures behind { self.new ≡ at.behind end }
+    {
+        let mut comments = Many::new(alloc);
+        if !self.comments.is_empty() {
+            let before = mem::replace(&mut self.comments, Many::new(alloc));
+            if newlines(bytes, self.end, start) == 1 {
+                comments = before;
+            }
+        }
+        self.last = Some(end);
+        self.end = end;
+        comments
+    }
+
     /// Passes a token that is no comment, and answers the terminal that it is.
     pub fn pass_token(
         &mut self,
@@ -135,12 +169,7 @@ impl Before {
         let kind = kind_of(alloc, token.kind, text_of(bytes, token))?;
         let gap = gap_at(bytes, self.last, place.start);
         let before = end_or_start(self.last);
-        let mut comments = mem::replace(&mut self.comments, Many::new(alloc));
-        if !comments.is_empty() && newlines(bytes, self.end, place.start) != 1 {
-            comments = Many::new(alloc);
-        }
-        self.last = Some(place.end);
-        self.end = place.end;
+        let comments = self.pass_carrying(alloc, bytes, place.start, place.end);
         Ok(Token {
             kind,
             spot: Spot {
@@ -150,6 +179,31 @@ impl Before {
                 end: place.end,
                 comments,
             },
+        })
+    }
+
+    /// Passes a token that is no comment and whose terminal is of this sort, and answers that terminal as it leads a phrase.
+    pub fn pass_lead(
+        &mut self,
+        alloc: Global,
+        bytes: &[u8],
+        sort: Sort,
+        token: &SigToken,
+    ) -> Result<Lead, NoMemory>
+        requires stands { at.StandsFrom bytes.now self.old.end token.now }
+        requires sort { sort ≡ sort_of (kind_at token.now.kind (at.text_of bytes.now token.now)) }
+        ensures lead { IfOk result (λ lead. at.Leads lead (at.terminal_at bytes.now self.old token.now)) }
+        ensures ok { OnOk result (self.new ≡ at.behind_token token.now) }
+        ensures err { OnErr result (self.new ≡ self.old) }
+    {
+        let place = token.place;
+        let kind = kind_by(alloc, sort, token.kind, text_of(bytes, token))?;
+        let comments = self.pass_carrying(alloc, bytes, place.start, place.end);
+        Ok(Lead {
+            kind,
+            start: place.start,
+            end: place.end,
+            comments,
         })
     }
 }

@@ -1,9 +1,11 @@
 ghost use Rattle.std.specs.Prelude.{◌<◌, ◌^◌, length};
 
 use crate::{
-    Gap, Keyword, Kind, Token, all_terminals, base_of, keyword_of, keyword_text, lower_of,
+    Gap, Keyword, Kind, Lead, Terminals, Token, all_terminals, base_of, keyword_of, keyword_text,
+    lower_of,
 };
-use plain_data::Word;
+use plain_data::{Many, Word};
+use rbs_lexer::tokens;
 use sig_model::ty::BaseTy;
 use std::alloc::Global;
 use std::process::Abort;
@@ -35,17 +37,39 @@ fn kind_text(alloc: Global, kind: &Kind) -> Result<String, Fail> {
     Ok(format!(in alloc; "{name} {}", word.as_str())?)
 }
 
+fn push_comments(all: &mut String, comments: &Many<Word>) -> Result<(), Fail> {
+    for comment in comments.as_slice() {
+        all.push_str(" #")?;
+        all.push_str(comment.as_str())?;
+    }
+    Ok(())
+}
+
 /// The gap, the kind and the place of a token, and each of its comments behind a `#`.
 fn token_text(alloc: Global, token: &Token) -> Result<String, Fail> {
     let spot = &token.spot;
     let kind = kind_text(alloc, &token.kind)?;
     let gap = gap_sign(spot.gap);
     let mut all = format!(in alloc; "{gap} {} {}-{}", kind.as_str(), spot.start, spot.end)?;
-    for comment in spot.comments.as_slice() {
-        all.push_str(" #")?;
-        all.push_str(comment.as_str())?;
-    }
+    push_comments(&mut all, &spot.comments)?;
     Ok(all)
+}
+
+/// The kind and the place of a terminal that leads a phrase, and each of its comments behind a `#`.
+fn lead_text(alloc: Global, lead: &Lead) -> Result<String, Fail> {
+    let kind = kind_text(alloc, &lead.kind)?;
+    let mut all = format!(in alloc; "{} {}-{}", kind.as_str(), lead.start, lead.end)?;
+    push_comments(&mut all, &lead.comments)?;
+    Ok(all)
+}
+
+/// The gap and the sort of the next terminal, and where the one before it ends.
+fn ahead_text(alloc: Global, rest: &Terminals) -> Result<String, Fail> {
+    let (Some(gap), Some(sort), Some(before)) = (rest.gap(), rest.sort(), rest.before()) else {
+        return Ok(format!(in alloc; "none")?);
+    };
+    let gap = gap_sign(gap);
+    Ok(format!(in alloc; "{gap} {sort:?} {before}")?)
 }
 
 fn expect(rt: &impl Abort, alloc: Global, text: &str, expected: &[&str]) -> Result<(), Fail> {
@@ -197,6 +221,78 @@ fn carried_comments(rt: HostRuntime) -> Result<(), Fail> {
             "/ text \n 31-34",
             "/ lower c 42-43",
         ],
+    )
+}
+
+/// The next terminal as it leads a phrase.
+fn lead(rt: &impl Abort, alloc: Global, rest: &mut Terminals) -> Result<String, Fail> {
+    let sort = rest.sort().expect(rt, "a sort");
+    let lead = rest.lead(sort)?.expect(rt, "a lead");
+    lead_text(alloc, &lead)
+}
+
+/// The next terminal as it is taken, and where it ends.
+fn take(rt: &impl Abort, alloc: Global, rest: &mut Terminals) -> Result<String, Fail> {
+    let sort = rest.sort().expect(rt, "a sort");
+    let (kind, end) = rest.take(sort)?.expect(rt, "a terminal");
+    let kind = kind_text(alloc, &kind)?;
+    Ok(format!(in alloc; "{} -{end}", kind.as_str())?)
+}
+
+/// What is told of a terminal, and then what it is as it leads a phrase; so too of the next, which is taken, and of the one behind it,
+/// which is passed.
+fn expect_three(
+    rt: &impl Abort,
+    alloc: Global,
+    text: &str,
+    expected: &[&str; 5],
+    end: u32,
+) -> Result<(), Fail> {
+    if text.len() < 1000 {
+        let bytes = text.as_bytes();
+        let Ok(tokens) = tokens(alloc, 3, bytes) else {
+            panic!(rt; "no tokens: {text}");
+        };
+        let mut rest = Terminals::new(alloc, bytes, tokens.as_slice());
+        assert_eq!(rt; ahead_text(alloc, &rest)?.as_str(), expected[0], "{text}");
+        assert_eq!(rt; lead(rt, alloc, &mut rest)?.as_str(), expected[1], "{text}");
+        assert_eq!(rt; ahead_text(alloc, &rest)?.as_str(), expected[2], "{text}");
+        assert_eq!(rt; take(rt, alloc, &mut rest)?.as_str(), expected[3], "{text}");
+        assert_eq!(rt; ahead_text(alloc, &rest)?.as_str(), expected[4], "{text}");
+        assert!(rt; rest.pass() == Some(end), "{text}");
+        assert_eq!(rt; ahead_text(alloc, &rest)?.as_str(), "none", "{text}");
+    }
+    Ok(())
+}
+
+#[test]
+fn three_terminals(rt: HostRuntime) -> Result<(), Fail> {
+    let alloc = rt.alloc();
+    expect_three(
+        &rt,
+        alloc,
+        "# one\n# two\nclass # three\n\n# four\nFoo::# five",
+        &[
+            "/ Keyword(Class) 0",
+            "keyword Class 12-17 # one # two",
+            "/ Upper 17",
+            "upper Foo -37",
+            "~ Mark(Scope) 37",
+        ],
+        39,
+    )?;
+    expect_three(
+        &rt,
+        alloc,
+        " # six\n\nBar @a\n# seven\n\n :b",
+        &[
+            "/ Upper 0",
+            "upper Bar 8-11",
+            "_ Variable 11",
+            "variable a -14",
+            "/ Symbol 14",
+        ],
+        27,
     )
 }
 

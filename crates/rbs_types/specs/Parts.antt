@@ -6,6 +6,7 @@ use Rattle.sig_model.specs.PlainTy.{PlainTy, PlainFun, PlainBlock}
 use Rattle.rbs_types.specs.declared.state.Parameters.{Parameters}
 use Rattle.rbs_types.specs.declared.state.Listed.{Listed}
 use Rattle.rbs_types.specs.declared.state.Head.{Head}
+use Rattle.rbs_types.specs.declared.state.FunctionHead.{FunctionHead}
 use Rattle.rbs_types.specs.declared.state.Slot.{Slot}
 use Rattle.rbs_types.specs.declared.state.Slot.TheVariants as slot
 use Rattle.rbs_types.specs.Plains.{and_key, and_arg, no_arg, no_rest_yet, no_key}
@@ -68,6 +69,17 @@ all_of p x t n = closed (added p x t n)
 -- the function of these parameters with this block and this result
 abbrev pub function_of : Listed → PlainBlock → PlainTy → PlainFun
 function_of l b t = plain.function l.parameters.required l.parameters.optional l.parameters.rest l.parameters.trailing l.parameters.keys l.key_rest b t
+
+abbrev pub no_head : FunctionHead
+no_head = record { parameters = no_parameters; key_rest = plain.no_rest; block = plain.no_block }
+
+-- all parameters that stand in a head
+abbrev pub listed_in : FunctionHead → Listed
+listed_in h = record { parameters = h.parameters; key_rest = h.key_rest }
+
+-- the function with this head and this result
+abbrev pub function_with : FunctionHead → PlainTy → PlainFun
+function_with h t = function_of (listed_in h) h.block t
 
 abbrev pub ended : Head → PlainTy → PlainTy
 ended h t = plain.fun (function_of h.listed h.block t)

@@ -5,6 +5,7 @@ mod begins;
 mod behind;
 mod ended;
 mod functions;
+mod heads;
 mod keys;
 mod parameters;
 mod parts;
@@ -27,8 +28,9 @@ pub use refused::Stuck;
 pub use stack::Stack;
 pub use starts::{start, start_arguments, start_function};
 pub use state::{
-    Focus, Frame, Head, Level, Listed, Members, Opening, Owner, Parameters, Slot, State,
+    Focus, Frame, FunctionHead, Head, Level, Listed, Members, Opening, Owner, Parameters, Slot,
+    State,
 };
-pub use tall::{Args, Block, Keys, Rest, Tall, Talls, fun_of};
+pub use tall::{Args, Block, Keys, Rest, Tall, Talls};
 pub use text::read_type;
 pub use within::{is_within, need_of, reach_of};

@@ -33,6 +33,14 @@ pub struct Listed {
     pub key_rest: Rest,
 }
 
+/// A function up to its arrow, put together in one place.
+#[derive(Drop)]
+pub struct FunctionHead {
+    pub parameters: Parameters,
+    pub key_rest: Rest,
+    pub block: Block,
+}
+
 /// A function up to its arrow.
 #[derive(Drop)]
 pub struct Head {

@@ -196,13 +196,18 @@ fn argument_of(item: Option<Boxed<Arg>>) -> Option<Arg>
     }
 }
 
-/// The function of these parameters, this block and this result, with the height of its tallest type.
-pub fn fun_of(parameters: Parameters, key_rest: Rest, block: Block, outcome: Tall) -> (FunTy, u32)
-    ensures fun { plain_fun result.0 ≡ function_of (record { parameters = parameters; key_rest = key_rest }) block outcome }
-    ensures levels { result.1 ≡ capped (fun_height (function_of (record { parameters = parameters; key_rest = key_rest }) block outcome)) }
+/// The height of the tallest type of the function of these parameters, this block and this result.
+pub fn levels_of(parameters: &Parameters, key_rest: &Rest, block: &Block, outcome: &Tall) -> u32
+    ensures { result ≡ capped (fun_height (function_of (record { parameters = parameters.now; key_rest = key_rest.now }) block.now outcome.now)) }
 {
     let listed = parameters.levels().max(key_rest.levels);
-    let levels = listed.max(block.levels).max(outcome.levels);
+    listed.max(block.levels).max(outcome.levels)
+}
+
+/// The function of these parameters, this block and this result.
+pub fn fun_of(parameters: Parameters, key_rest: Rest, block: Block, outcome: Tall) -> FunTy
+    ensures { plain_fun result ≡ function_of (record { parameters = parameters; key_rest = key_rest }) block outcome }
+{
     let Parameters {
         required,
         optional,
@@ -210,7 +215,7 @@ pub fn fun_of(parameters: Parameters, key_rest: Rest, block: Block, outcome: Tal
         trailing,
         keys,
     } = parameters;
-    let fun = FunTy {
+    FunTy {
         required: required.items,
         optional: optional.items,
         rest: argument_of(rest.item),
@@ -219,8 +224,7 @@ pub fn fun_of(parameters: Parameters, key_rest: Rest, block: Block, outcome: Tal
         key_rest: argument_of(key_rest.item),
         block: block.item,
         result: outcome.ty,
-    };
-    (fun, levels)
+    }
 }
 
 /// The function of all these parameters, this block and this result, with the height of its tallest type.
@@ -232,7 +236,9 @@ fn function_of(listed: Listed, block: Block, outcome: Tall) -> (FunTy, u32)
         parameters,
         key_rest,
     } = listed;
-    fun_of(parameters.into_inner(), key_rest, block, outcome)
+    let parameters = parameters.into_inner();
+    let levels = levels_of(&parameters, &key_rest, &block, &outcome);
+    (fun_of(parameters, key_rest, block, outcome), levels)
 }
 
 impl Tall {

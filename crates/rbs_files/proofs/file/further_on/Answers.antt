@@ -12,4 +12,4 @@ returns-clause-phrase c =
     let next = plain_decl c.in_ok-next.next in
     let read = c.in_ok-next.ensures.phrase start c.in_ok-noted.ensures.phrase in
     let read' = subst (λ (w : Whole). IsDeclaration 400 c.args.file w.last next start rest) c.in_ok-noted.ensures.kept read in
-    file_grows 400 c.args.file (whole c.args.cursor.now).last c.args.decls c.in_ok-with.field-0 next start rest read' c.in_ok-with.ensures
+    file_grows 400 c.args.file (whole c.args.cursor.now).last c.args.decls.now c.add.new.self next start rest read' c.in_ok-add.ensures

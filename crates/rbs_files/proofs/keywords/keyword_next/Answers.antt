@@ -1,5 +1,6 @@
-use Rattle.rbs_files.proofs.KeywordsRead.{next_word}
+use Rattle.std.proofs.Common.{sym, ◌∙◌}
+use Rattle.rbs_files.proofs.KeywordsRead.{found_next, next_found}
 use Rattle.rbs_files.proofs.keywords.keyword_next.Goals as goal
 
-pub returns-in-Some : goal.returns-in-Some
-returns-in-Some c = next_word c.args.keyword c.is_keyword.result c.args.cursor.now.rest c.in-Some.token.now c.in-Some.ensures c.is_keyword.ensures
+pub returns : goal.returns
+returns c = (λ t. found_next c.args.keyword c.args.cursor.now.rest (sym c.keyword.ensures ∙ c.is_found.ensures.0 t), λ h. c.is_found.ensures.1 (c.keyword.ensures ∙ next_found c.args.keyword c.args.cursor.now.rest h))

@@ -30,12 +30,12 @@ loop-more-preserved c =
       further = λ e all rest h.
           c.loop-more.invariant.further c.loop-more-test.true all rest
           (more_follow c.args.room before all p ts mid after rest read (taken mark.Comma mid after c.in_ok-more.more e skipped)
-          (subst (λ (ps : List PlainParam). Lengthens c.args.room ps all after rest) c.in_ok-done.ensures h));
+          (subst (λ (ps : List PlainParam). Lengthens c.args.room ps all after rest) c.in_ok-add.ensures h));
       all = λ e.
-          c.loop-more.invariant.further c.loop-more-test.true c.in_ok-done.done after
-          (subst (λ (ps : List PlainParam). Lengthens c.args.room before ps ts after) (sym c.in_ok-done.ensures)
+          c.loop-more.invariant.further c.loop-more-test.true c.add.new.self after
+          (subst (λ (ps : List PlainParam). Lengthens c.args.room before ps ts after) (sym c.in_ok-add.ensures)
           (none_follows c.args.room before p ts after (subst (λ mid. IsParam c.args.room before p ts mid) (untaken mark.Comma mid after c.in_ok-more.more e skipped) read)));
-      low = rw c.in_ok-done.ensures (omega (arith, params_and before p, c.loop-more.invariant.low, read.3));
+      low = rw c.in_ok-add.ensures (omega (arith, params_and before p, c.loop-more.invariant.low, read.3));
       kept = c.in_ok-more.ensures.kept ∙ c.in_ok-param.ensures.kept ∙ c.loop-more.invariant.kept;
       nearer = omega (arith, c.in_ok-more.ensures.shorter, c.in_ok-param.ensures.shorter, c.loop-more.invariant.nearer);
       shorter = λ e. omega (arith, c.in_ok-more.ensures.shorter, c.in_ok-param.ensures.shorter, c.loop-more.invariant.nearer);

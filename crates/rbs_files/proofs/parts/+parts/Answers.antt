@@ -1,11 +1,10 @@
-use Rattle.std.proofs.Common.{◌≡◌, ◌-◌, refl, sym, ◌∙◌, ap, subst, ◌∷◌, IfOk, arith}
+use Rattle.std.proofs.Common.{◌≡◌, ◌-◌, refl, sym, ◌∙◌, ap, subst, ◌∷◌, IfOk, OnOk, arith}
 use Rattle.sig_model.specs.PlainDecl.{PlainParts, plain_body, plain_decl}
 use Rattle.rbs_terminals.specs.declared.token.Keyword.TheVariants as keyword
 use Rattle.rbs_terminals.specs.declared.token.Kind.{Kind}
 use Rattle.rbs_terminals.specs.declared.token.Kind.TheVariants as kind
 use Rattle.rbs_types.specs.Symbols.{token}
 use Rattle.rbs_phrases.specs.Fronts.{Whole, whole}
-use Rattle.rbs_phrases.proofs.Read.{if_ok}
 use Rattle.rbs_files.specs.Within.{IsBody, IsDeclaration, AreParts}
 use Rattle.rbs_files.specs.Onward.{GrowsParts}
 use Rattle.rbs_files.proofs.PartsRead.{declared, inner_grows, parts_start, parts_join, parts_end}
@@ -59,20 +58,20 @@ pub declaration_from-returns-clause-phrase : goal.declaration_from-returns-claus
 declaration_from-returns-clause-phrase t c ts noted =
     declared c.args.room c.args.file (whole c.args.cursor.now).last c.args.noted c.args.cursor.now.end c.in_ok-body.end (plain_body c.in_ok-body.body) ts c.args.cursor.now.rest c.body_from.new.cursor.rest noted c.in_ok-body.ensures.phrase
 
-pub part_on-returns-in_ok-with_inner-clause-phrase : goal.part_on-returns-in_ok-with_inner-clause-phrase
-part_on-returns-in_ok-with_inner-clause-phrase t c =
+pub part_on-returns-in_ok-add_inner-clause-phrase : goal.part_on-returns-in_ok-add_inner-clause-phrase
+part_on-returns-in_ok-add_inner-clause-phrase t c =
     let start = c.args.cursor.now.rest in
     let rest = c.declaration_from.new.cursor.rest in
     let inner = plain_decl c.in_ok-inner.inner in
     let read = c.in_ok-inner.ensures.phrase start c.in_ok-noted.ensures.phrase in
     let read' = subst (λ (w : Whole). IsDeclaration c.args.room c.args.file w.last inner start rest) c.in_ok-noted.ensures.kept read in
-    inner_grows c.args.room c.args.file (whole c.args.cursor.now).last c.args.parts c.in_ok-with_inner.field-0 inner start rest read' c.in_ok-with_inner.ensures
+    inner_grows c.args.room c.args.file (whole c.args.cursor.now).last c.args.parts.now c.add_inner.new.self inner start rest read' c.in_ok-add_inner.ensures
 
 pub part_on-returns-else-begins_body-clause-phrase : goal.part_on-returns-else-begins_body-clause-phrase
 part_on-returns-else-begins_body-clause-phrase t c =
     let start = c.args.cursor.now.rest in
     let rest = c.member_part_from.new.cursor.rest in
-    if_ok c.member_part_from.result (λ ps h. subst (λ (w : Whole). GrowsParts c.args.room c.args.file w.last c.args.parts ps start rest) c.in_ok-noted.ensures.kept h) (c.member_part_from.ensures.phrase start c.in_ok-noted.ensures.phrase)
+    subst (λ (w : Whole). OnOk c.member_part_from.result (GrowsParts c.args.room c.args.file w.last c.args.parts.now c.member_part_from.new.parts start rest)) c.in_ok-noted.ensures.kept (c.member_part_from.ensures.phrase start c.in_ok-noted.ensures.phrase)
 
 pub parts_on-loop-alloc-init : goal.parts_on-loop-alloc-init
 parts_on-loop-alloc-init t c = record {
@@ -85,11 +84,11 @@ pub parts_on-loop-alloc-preserved : goal.parts_on-loop-alloc-preserved
 parts_on-loop-alloc-preserved t c =
     let before = c.loop-alloc in
     let rest = c.part_on.new.cursor.rest in
-    let more = subst (λ (w : Whole). GrowsParts c.args.room c.args.file w.last before.parts c.in_ok-parts.parts before.cursor.rest rest) before.invariant.kept c.in_ok-parts.ensures.phrase in
+    let more = subst (λ (w : Whole). GrowsParts c.args.room c.args.file w.last before.parts c.part_on.new.parts before.cursor.rest rest) before.invariant.kept c.in_ok-part_on.ensures.phrase in
     record {
-      read = parts_join c.args.room c.args.file (whole c.args.cursor.now).last c.new-parts.result before.parts c.in_ok-parts.parts c.args.cursor.now.rest before.cursor.rest rest before.invariant.read more;
-      kept = c.in_ok-parts.ensures.kept ∙ before.invariant.kept;
-      nearer = omega (arith, c.in_ok-parts.ensures.shorter, before.invariant.nearer);
+      read = parts_join c.args.room c.args.file (whole c.args.cursor.now).last c.new-parts.result before.parts c.part_on.new.parts c.args.cursor.now.rest before.cursor.rest rest before.invariant.read more;
+      kept = c.in_ok-part_on.ensures.kept ∙ before.invariant.kept;
+      nearer = omega (arith, c.in_ok-part_on.ensures.shorter, before.invariant.nearer);
     }
 
 pub parts_on-returns-clause-phrase : goal.parts_on-returns-clause-phrase

@@ -16,11 +16,11 @@ pub loop-alloc-preserved : goal.loop-alloc-preserved
 loop-alloc-preserved c =
     let before = c.loop-alloc in
     let rest = c.interface_part_on.new.cursor.rest in
-    let more = subst (λ (w : Whole). GrowsInterface c.args.room c.args.file w.last before.parts c.in_ok-parts.parts before.cursor.rest rest) before.invariant.kept c.in_ok-parts.ensures.phrase in
+    let more = subst (λ (w : Whole). GrowsInterface c.args.room c.args.file w.last before.parts c.interface_part_on.new.parts before.cursor.rest rest) before.invariant.kept c.in_ok-interface_part_on.ensures.phrase in
     record {
-      read = interface_join c.args.room c.args.file (whole c.args.cursor.now).last c.new-parts.result before.parts c.in_ok-parts.parts c.args.cursor.now.rest before.cursor.rest rest before.invariant.read more;
-      kept = c.in_ok-parts.ensures.kept ∙ before.invariant.kept;
-      nearer = omega (arith, c.in_ok-parts.ensures.shorter, before.invariant.nearer);
+      read = interface_join c.args.room c.args.file (whole c.args.cursor.now).last c.new-parts.result before.parts c.interface_part_on.new.parts c.args.cursor.now.rest before.cursor.rest rest before.invariant.read more;
+      kept = c.in_ok-interface_part_on.ensures.kept ∙ before.invariant.kept;
+      nearer = omega (arith, c.in_ok-interface_part_on.ensures.shorter, before.invariant.nearer);
     }
 
 pub returns-clause-phrase : goal.returns-clause-phrase

@@ -1,8 +1,5 @@
 use Rattle.std.proofs.Common.{sym, ◌∙◌, ap, subst, ◌∷◌, arith}
 use Rattle.rbs_terminals.specs.declared.token.Mark.TheVariants as mark
-use Rattle.sig_model.specs.PlainTy.{PlainFun}
-use Rattle.sig_model.specs.Height.{fun_height}
-use Rattle.rbs_types.specs.Capped.{capped}
 use Rattle.rbs_types.specs.Symbols.{token}
 use Rattle.rbs_types.specs.Plains.{and_ty}
 use Rattle.rbs_types.specs.Grammar.{Spells, Lists, type, inter, opt, result, lone_inter, lone_opt, proc}
@@ -62,7 +59,7 @@ paren_on-returns-clause-phrase t c s =
     read.paren_read s ty c.in_ok-expect.ensures.marked
 
 pub proc_on-returns-clause-phrase : goal.proc_on-returns-clause-phrase
-proc_on-returns-clause-phrase t c s = rw c.in_ok-of_fun.ensures (proc s c.in_ok-fun.ensures.phrase)
+proc_on-returns-clause-phrase t c s = rw (c.in_ok-of_fun.ensures, c.with_result.ensures) (proc s c.in_ok-outcome.ensures.phrase)
 
 pub simple_from-returns-then-is_literal-clause-phrase : goal.simple_from-returns-then-is_literal-clause-phrase
 simple_from-returns-then-is_literal-clause-phrase t c s =
@@ -150,26 +147,26 @@ parameters_on-returns-clause-phrase t c =
 pub listed_on-returns-then-not-branch-clause-phrase : goal.listed_on-returns-then-not-branch-clause-phrase
 listed_on-returns-then-not-branch-clause-phrase t c =
     let same = left mark.Open _ _ c.in_ok-skip.field-0 c.if-not-branch.true c.in_ok-skip.ensures.skipped in
-    rw (c.none_yet.ensures, c.none.ensures) (read.unlisted_read same.0)
+    rw (c.requires, c.none.ensures) (read.unlisted_read same.0)
 
 pub listed_on-returns-then-branch-clause-phrase : goal.listed_on-returns-then-branch-clause-phrase
 listed_on-returns-then-branch-clause-phrase t c =
     let opened = taken mark.Open _ _ c.in_ok-skip.field-0 c.if-not-branch.false c.in_ok-skip.ensures.skipped in
     let closed = taken mark.Close _ _ c.in_ok-skip-2.field-0 c.if-branch.true c.in_ok-skip-2.ensures.skipped in
-    rw (c.none_yet-then-branch.ensures, c.none-then-branch.ensures) (read.empty_read opened closed)
+    rw (c.requires, c.none-then-branch.ensures) (read.empty_read opened closed)
 
 pub listed_on-returns-clause-phrase : goal.listed_on-returns-clause-phrase
 listed_on-returns-clause-phrase t c =
     let opened = taken mark.Open _ _ c.in_ok-skip.field-0 c.if-not-branch.false c.in_ok-skip.ensures.skipped in
     let same = left mark.Close _ _ c.in_ok-skip-2.field-0 c.if-branch.false c.in_ok-skip-2.ensures.skipped in
-    read.listed_read opened (rw same.0 c.in_ok-listed.ensures.phrase) c.in_ok-expect.ensures.marked
+    read.listed_read opened (rw same.0 c.in_ok-key_rest.ensures.phrase) c.in_ok-expect.ensures.marked
 
 pub braced_on-returns-clause-phrase : goal.braced_on-returns-clause-phrase
 braced_on-returns-clause-phrase t c =
     let next = c.in_ok-kind.ensures.next in
     let outcome = subst (λ m. Spells result c.in_ok-outcome.outcome m c.outcome_from.new.cursor.rest) (sym next.1) (c.in_ok-outcome.ensures.phrase next.0) in
-    let braced = read.braced_read c.in_ok-parameters.ensures.phrase c.in_ok-expect.ensures.marked outcome c.in_ok-expect-2.ensures.marked in
-    (_, c.in_ok-of_fun.ensures, rw (c.fun_of-fun.ensures.fun, c.none.ensures) braced)
+    let braced = read.braced_read c.in_ok-key_rest.ensures.phrase c.in_ok-expect.ensures.marked outcome c.in_ok-expect-2.ensures.marked in
+    (_, c.in_ok-of_fun.ensures, rw (c.with_result.ensures, c.none.ensures) braced)
 
 pub block_on-returns-then-branch-clause-phrase : goal.block_on-returns-then-branch-clause-phrase
 block_on-returns-then-branch-clause-phrase t c =
@@ -190,8 +187,6 @@ block_on-returns-else-branch-2-clause-phrase t c =
 pub function_from-returns-clause-phrase : goal.function_from-returns-clause-phrase
 function_from-returns-clause-phrase t c =
     let next = c.in_ok-kind.ensures.next in
-    let outcome = subst (λ m. Spells result c.in_ok-outcome.outcome m c.outcome_from.new.cursor.rest) (sym next.1) (c.in_ok-outcome.ensures.phrase next.0) in
-    rw c.fun_of.ensures.fun (read.function_read c.in_ok-parameters.ensures.phrase c.in_ok-block.ensures.phrase c.in_ok-expect.ensures.marked outcome)
-
-pub function_from-returns-clause-levels : goal.function_from-returns-clause-levels
-function_from-returns-clause-levels t c = c.fun_of.ensures.levels ∙ ap (λ (f : PlainFun). capped (fun_height f)) (sym c.fun_of.ensures.fun)
+    if_ok c.outcome_from.result
+    (λ outcome h. read.function_read c.in_ok-head.ensures.phrase c.in_ok-head-2.ensures.phrase c.in_ok-expect.ensures.marked (subst (λ m. Spells result outcome m c.outcome_from.new.cursor.rest) (sym next.1) h))
+    (c.outcome_from.ensures.phrase next.0)
