@@ -28,6 +28,7 @@ pub fn is_word(kind: &Kind) -> bool
 }
 
 /// The word that a terminal is.
+#[inline(always)]
 pub fn word_of(alloc: Global, kind: Kind) -> Result<Word, Unread>
     ensures { IfOk result (λ word. kinds.lower_of kind ≡ Some word) }
 {
@@ -38,6 +39,7 @@ pub fn word_of(alloc: Global, kind: Kind) -> Result<Word, Unread>
 }
 
 /// The name of a key, which is this terminal and which none of these keys has, and the colon behind it.
+#[inline(always)]
 fn key_from(alloc: Global, cursor: &mut Cursor, keys: &Keys, kind: Kind) -> Result<Word, Unread>
     ensures name { IfOk result (λ word. (kinds.lower_of kind ≡ Some word) × (is_new word keys.now ≡ true)) }
     ensures colon { OnOk result (Marked mark.Colon cursor.old.rest cursor.new.rest) }
@@ -88,6 +90,7 @@ fn slot_of(needed: bool) -> Slot
 
 /// What stands before the type of a parameter that begins with this terminal, or with a question mark and this one where it isn't needed;
 /// and the first terminal of the type.
+#[inline(always)]
 fn slot_from(
     alloc: Global,
     cursor: &mut Cursor,
@@ -147,6 +150,7 @@ fn is_key(slot: &Slot) -> bool
 }
 
 /// The name behind the type of a parameter, if it has one.
+#[inline(always)]
 pub fn name_behind(alloc: Global, cursor: &mut Cursor, slot: &Slot) -> Result<Option<Word>, Unread>
     ensures phrase { (t : PlainTy) → (ts : List Token) → Spells type t ts cursor.old.rest → IfOk result (λ name. Fills slot.now t name ts cursor.new.rest) }
     ensures kept { OnOk result (whole cursor.new ≡ whole cursor.old) }

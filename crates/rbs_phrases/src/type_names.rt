@@ -60,6 +60,7 @@ impl Use {
 }
 
 /// The next terminal stands on the line of the one before it.
+#[inline(always)]
 pub fn on_line_next(cursor: &Cursor) -> bool
     ensures { result ≡ on_line_next cursor.now.rest }
 {
@@ -70,6 +71,7 @@ pub fn on_line_next(cursor: &Cursor) -> bool
 }
 
 /// A `::` follows on the line.
+#[inline(always)]
 pub fn scope_next(cursor: &Cursor) -> bool
     ensures { result ≡ scope_follows cursor.now.rest }
 {
@@ -83,6 +85,7 @@ fn is_upper(kind: &Kind) -> bool
 }
 
 /// The terminal that was taken last is a capital word, and a `::` follows on its line.
+#[inline(always)]
 fn goes_on(kind: &Kind, cursor: &Cursor) -> bool
     ensures { result ≡ (is_upper kind.now && scope_follows cursor.now.rest) }
 {
@@ -90,6 +93,7 @@ fn goes_on(kind: &Kind, cursor: &Cursor) -> bool
 }
 
 /// The name with this terminal as its last word.
+#[inline(always)]
 fn ended(name: TypeName, usage: Use, kind: Kind) -> Result<TypeName, Unread>
     ensures { IfOk result (λ n. Ends (use_of usage) name kind n) }
 {
@@ -125,6 +129,7 @@ fn outer_on(cursor: &mut Cursor, name: TypeName, kind: Kind) -> Result<(TypeName
 }
 
 /// What is left of a name, from its next word on, which is this terminal.
+#[inline(always)]
 fn words_from(
     cursor: &mut Cursor,
     usage: Use,
@@ -144,6 +149,7 @@ fn words_from(
 }
 
 /// A name whose first terminal is this.
+#[inline(always)]
 pub fn name_from(
     alloc: Global,
     cursor: &mut Cursor,

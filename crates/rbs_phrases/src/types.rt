@@ -42,6 +42,7 @@ fn is_literal(kind: &Kind) -> bool {
 }
 
 /// The type that the terminal is by itself.
+#[inline(always)]
 fn literal_of(kind: Kind) -> Result<Tall, Unread>
     ensures { IfOk result (λ t. literal_of kind ≡ Some t) }
 {
@@ -66,6 +67,7 @@ fn single_on(alloc: Global, cursor: &mut Cursor) -> Result<Tall, Unread>
 }
 
 /// A type that this keyword begins.
+#[inline(always)]
 fn keyword_from(alloc: Global, cursor: &mut Cursor, keyword: Keyword) -> Result<Tall, Unread>
     ensures phrase { (s : Spot) → IfOk result (λ t. Spells grammar.simple t (token (kinds.Keyword keyword) s ∷ cursor.old.rest) cursor.new.rest) }
     ensures kept { OnOk result (whole cursor.new ≡ whole cursor.old) }
@@ -81,6 +83,7 @@ fn keyword_from(alloc: Global, cursor: &mut Cursor, keyword: Keyword) -> Result<
 }
 
 /// This type, which was read, with a question mark if one follows. It is a result too.
+#[inline(always)]
 fn opt_behind(alloc: Global, cursor: &mut Cursor, ty: Tall) -> Result<Tall, Unread>
     ensures opt { (ts : List Token) → Spells grammar.simple ty ts cursor.old.rest → IfOk result (λ t. Spells grammar.opt t ts cursor.new.rest) }
     ensures outcome { (ts : List Token) → Spells grammar.simple ty ts cursor.old.rest → IfOk result (λ t. Spells grammar.result t ts cursor.new.rest) }
@@ -95,6 +98,7 @@ fn opt_behind(alloc: Global, cursor: &mut Cursor, ty: Tall) -> Result<Tall, Unre
 }
 
 /// A name that begins with this terminal, with its arguments.
+#[inline(always)]
 #[cycle(types)]
 fn named_from(alloc: Global, cursor: &mut Cursor, depth: u32, kind: Kind) -> Result<Tall, Unread>
     ensures phrase { (s : Spot) → IfOk result (λ t. Spells grammar.simple t (token kind s ∷ cursor.old.rest) cursor.new.rest) }
@@ -268,6 +272,7 @@ fn union_behind(alloc: Global, cursor: &mut Cursor, depth: u32, first: Tall) -> 
 }
 
 /// The next terminal goes on with a type.
+#[inline(always)]
 fn operator_next(cursor: &Cursor) -> bool {
     matches!(cursor.mark(), Some(Mark::Question | Mark::Amp | Mark::Bar))
 }
@@ -297,6 +302,7 @@ fn operators_behind(
 }
 
 /// Such a type, which begins with this terminal.
+#[inline(always)]
 #[cycle(types)]
 fn item_from(
     alloc: Global,

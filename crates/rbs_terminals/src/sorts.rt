@@ -72,6 +72,7 @@ pub fn sort_at(kind: TokenKind, text: &[u8]) -> Sort
 }
 
 /// The terminal that is a token of this kind with this text, where its sort is known.
+#[inline(always)]
 pub fn kind_by(alloc: Global, sort: Sort, kind: TokenKind, text: &[u8]) -> Result<Kind, NoMemory>
     requires token { IsToken kind text.now }
     requires fit { IsFit kind text.now }

@@ -44,14 +44,13 @@ pub fn integer_value(integer: &[u8]) -> i64
 }
 
 /// A copy of a text.
+#[inline(always)]
 pub fn word_of(alloc: Global, text: &[u8]) -> Result<Word, NoMemory>
     requires { IsUtf8 text.now }
     ensures { IfOk result (λ word. word ≡ text.now) }
 {
-    let Ok(text) = str::from_utf8(text) else {
-        unreachable!()
-    };
-    Word::of(alloc, text)
+    // SAFETY: the text is UTF-8, as is required.
+    Word::of(alloc, unsafe { str::from_utf8_unchecked(text) })
 }
 
 /// What a byte behind a backslash stands for.

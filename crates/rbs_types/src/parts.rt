@@ -33,6 +33,7 @@ pub fn root(alloc: Global) -> TypeName
 }
 
 /// The name with one more word.
+#[inline(always)]
 pub fn grown(name: TypeName, word: Word) -> Result<TypeName, NoMemory>
     ensures { IfOk result (λ n. n ≡ parts.grown name word) }
 {
