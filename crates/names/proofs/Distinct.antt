@@ -1,7 +1,6 @@
 -- Names that come twice.
-use Rattle.std.proofs.Common.{◌≡◌, ℕ, ◌<◌, ◌+◌, List, [], ◌∷◌, ◌++◌, Bool, true, false, ◌||◌, length, get_or, take, drop, map, refl, ap, sym, ◌∙◌, subst, cond, append_assoc, arith}
-use Rattle.std.specs.List.{IsDistinct, AllByRecursion, list_any}
-use Rattle.std.proofs.lemmas.List.{take_more}
+use Rattle.std.proofs.Common.{◌≡◌, ℕ, List, [], ◌∷◌, ◌++◌, Bool, true, false, ◌||◌, refl, subst}
+use Rattle.std.specs.List.{IsDistinct, AllByRecursion}
 use Rattle.names.specs.Places.{same_name, is_among}
 use Rattle.names.proofs.Places.{same_name-true, same_name-self}
 

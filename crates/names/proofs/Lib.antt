@@ -1,3 +1,4 @@
 pub mod Places
 pub mod Distinct
 pub mod Rest
+pub mod Later

@@ -1,11 +1,10 @@
 -- The rest of a list behind one of its items, and the places of names.
-use Rattle.std.proofs.Common.{◌≡◌, ℕ, zero, suc, ◌<◌, ◌+◌, List, [], ◌∷◌, ◌++◌, Bool, true, false, ◌||◌, length, get_or, take, drop, map, refl, ap, sym, ◌∙◌, subst, cond, append_assoc, arith, add-one}
-use Rattle.std.specs.Prelude.{Option, None, Some, position, is_none, option_and_then}
-use Rattle.std.specs.List.{IsDistinct, AllByRecursion, list_any}
+use Rattle.std.proofs.Common.{◌≡◌, ℕ, suc, ◌<◌, ◌+◌, List, [], ◌∷◌, ◌++◌, true, false, length, get_or, drop, map, ap, sym, ◌∙◌, subst, append_assoc, add-one}
+use Rattle.std.specs.List.{IsDistinct, AllByRecursion}
 use Rattle.std.specs.Cmp.Lexicographic.{nat_list_eq_equiv}
 use Rattle.std.proofs.lemmas.Map.Keys.{IsDistinct-push}
 use Rattle.std.proofs.Math.Seq.{drop-cons}
-use Rattle.names.specs.Places.{same_name, is_among, place_of}
+use Rattle.names.specs.Places.{same_name, is_among}
 use Rattle.names.proofs.Distinct.{repeated}
 
 rest_at : {X : Type 0} (xs : List X) (i : ℕ) (x : X) → i < length xs → x ≡ get_or xs i x → drop i xs ≡ x ∷ drop (i + 1) xs

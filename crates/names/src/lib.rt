@@ -4,9 +4,12 @@
 ghost use Rattle.std.specs.Prelude.{◌≡◌, ◌∷◌, ◌++◌, [], length, OnErr, IfOk, MatchBool, IsTrue, ◌↔◌, true, false};
 ghost use Rattle.names.specs.Places.{place_of, is_among};
 
+mod far;
+mod list;
 mod named;
 
 use indexmap::IndexSet;
+pub use list::NamedList;
 pub use named::{Named, all_among, names_of};
 use plain_data::{NoMemory, Word};
 use std::alloc::Global;

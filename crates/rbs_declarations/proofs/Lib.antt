@@ -1,4 +1,5 @@
 pub mod Heights
+pub mod ParamNames
 pub mod Valid
 pub mod Needs
 pub mod Opens

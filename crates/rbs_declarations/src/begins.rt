@@ -368,7 +368,12 @@ pub fn part_begins(alloc: Global, around: Around, token: Token) -> Result<State,
 pub fn then_part(alloc: Global, file: u32, whole: State, token: Token) -> Result<State, Stuck>
     ensures { Does (machine.then_part file (Some whole) token.kind token.spot) result }
 {
-    let State { decls, frames, .. } = whole;
+    let State {
+        decls,
+        frames,
+        focus,
+    } = whole;
+    drop(focus);
     part_begins(
         alloc,
         Around {

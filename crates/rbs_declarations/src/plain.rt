@@ -9,6 +9,7 @@ ghost use Rattle.sig_model.specs.PlainDecl.{plain_decl, plain_decls, plain_parts
 ghost use Rattle.rbs_types.specs.Parts.{function_with};
 ghost use Rattle.rbs_declarations.specs.Grammar.{is_new_param, and_inner, and_member, and_decl};
 
+use names::NamedList;
 use plain_data::{Many, NoMemory, Word};
 use rbs_types::{FunctionHead, Tall};
 use sig_model::decl::{Decl, Member, MethodTy, Notes, Part, TyParam};
@@ -20,7 +21,7 @@ use std::marker::Model;
 /// Type parameters.
 #[derive(Drop)]
 pub struct Params {
-    items: Many<TyParam>,
+    items: NamedList<TyParam>,
 }
 
 impl Model for Params {
@@ -118,7 +119,7 @@ impl Params {
         ensures { result ≡ [] }
     {
         Params {
-            items: Many::new(alloc),
+            items: NamedList::new(alloc),
         }
     }
 
@@ -126,8 +127,7 @@ impl Params {
     pub fn add(&mut self, param: TyParam) -> Result<(), NoMemory>
         ensures { OnOk result (self.new ≡ self.old ++ plain_param param ∷ []) }
     {
-        self.items.push(param)?;
-        Ok(())
+        self.items.push(param)
     }
 
     /// The parameters, and one more.
@@ -140,15 +140,11 @@ impl Params {
     }
 
     /// No parameter has this name.
+    #[tactic(auto, using(crate::proofs::ParamNames::new_param))]
     pub fn is_new(&self, name: &Word) -> bool
         ensures { result ≡ is_new_param name.now self.now }
     {
-        for param in self.items.as_slice() {
-            if *name == param.name {
-                return false;
-            }
-        }
-        true
+        self.items.is_new(name)
     }
 
     /// The parameters, moved.
@@ -156,7 +152,7 @@ impl Params {
         ensures { plain_params result ≡ self }
     {
         let Params { items } = self;
-        items
+        items.into_items()
     }
 }
 
@@ -174,9 +170,8 @@ impl Methods {
     pub fn add(&mut self, params: Params, head: FunctionHead, outcome: Tall) -> Result<(), NoMemory>
         ensures { OnOk result (self.new ≡ self.old ++ record { params = params; fun = function_with head outcome } ∷ []) }
     {
-        let Params { items: params } = params;
         self.items.push(MethodTy {
-            params,
+            params: params.into_items(),
             fun: head.with_result(outcome),
         })
     }
@@ -186,7 +181,7 @@ impl Methods {
         ensures { IfOk result (λ ms. ms ≡ self ++ record { params = params; fun = plain_fun fun } ∷ []) }
     {
         let Methods { mut items } = self;
-        let Params { items: params } = params;
+        let params = params.into_items();
         items.push(MethodTy { params, fun })?;
         Ok(Methods { items })
     }

@@ -325,7 +325,12 @@ fn only_decls(decls: Decls, frames: Stack<Frame>) -> Option<Decls>
 fn decls_of(state: State) -> Option<Decls>
     ensures { (file : ℕ) → result ≡ machine.only_decls file state.decls state.frames }
 {
-    let State { decls, frames, .. } = state;
+    let State {
+        decls,
+        frames,
+        focus,
+    } = state;
+    drop(focus);
     only_decls(decls, frames)
 }
 

@@ -1,5 +1,6 @@
 pub mod Through
 pub mod Caps
+pub mod KeyNames
 pub mod Empty
 pub mod Levels
 pub mod Turns

@@ -13,6 +13,7 @@ ghost use Rattle.rbs_types.specs.Parts.{function_of, function_in};
 
 use crate::state::{Listed, Parameters};
 use crate::tallest::above;
+use names::NamedList;
 use plain_data::{Boxed, Many, NoMemory, Word};
 use sig_model::ty::{Arg, BaseTy, BlockTy, FunTy, RecKey, Ty, TypeName};
 use std::alloc::Global;
@@ -77,7 +78,7 @@ impl Model for Talls {
 /// Keys of a record type or keywords of a method, with the height of the tallest type.
 #[derive(Drop)]
 pub struct Keys {
-    items: Many<RecKey>,
+    items: NamedList<RecKey>,
     levels: u32,
 }
 
@@ -220,7 +221,7 @@ pub fn fun_of(parameters: Parameters, key_rest: Rest, block: Block, outcome: Tal
         optional: optional.items,
         rest: argument_of(rest.item),
         trailing: trailing.items,
-        keys: keys.items,
+        keys: keys.items.into_items(),
         key_rest: argument_of(key_rest.item),
         block: block.item,
         result: outcome.ty,
@@ -344,7 +345,7 @@ impl Tall {
     {
         let Keys { items, levels } = keys;
         Tall {
-            ty: Ty::Rec(items),
+            ty: Ty::Rec(items.into_items()),
             levels: above(levels),
         }
     }
@@ -459,7 +460,7 @@ impl Keys {
         ensures { result ≡ plain.no_keys }
     {
         Keys {
-            items: Many::new(alloc),
+            items: NamedList::new(alloc),
             levels: 0,
         }
     }
@@ -477,15 +478,11 @@ impl Keys {
     }
 
     /// No key has this name.
+    #[tactic(auto, using(crate::proofs::KeyNames::new_key))]
     pub fn is_new(&self, name: &Word) -> bool
         ensures { result ≡ is_new name.now self.now }
     {
-        for key in self.items.as_slice() {
-            if *name == key.key {
-                return false;
-            }
-        }
-        true
+        self.items.is_new(name)
     }
 
     /// Adds one more at the end.

@@ -6,6 +6,7 @@ pub mod copy;
 pub mod decl;
 pub mod diag;
 pub mod height;
+mod named;
 pub mod place;
 #[cfg(test)]
 mod tests;

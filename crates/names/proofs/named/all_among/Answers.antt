@@ -1,4 +1,4 @@
-use Rattle.std.proofs.Common.{arith, rules, ◌≡◌, ◌∙◌, true, false, sym, ap, subst, List, ℕ}
+use Rattle.std.proofs.Common.{arith, rules, ◌≡◌, true, false, List, ℕ}
 use Rattle.names.specs.Places.{is_among}
 use Rattle.names.proofs.Rest.{all_left, all_back}
 use Rattle.names.proofs.named.all_among.Goals as goal

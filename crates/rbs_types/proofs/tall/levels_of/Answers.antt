@@ -1,7 +1,7 @@
 use Rattle.std.proofs.Common.{◌≡◌, sym, ◌∙◌, ap, max, rules}
 use Rattle.sig_model.specs.Height.{rest_height}
 use Rattle.rbs_types.specs.Capped.{capped}
-use Rattle.rbs_types.specs.Needs.{parameters_height, listed_height}
+use Rattle.rbs_types.specs.Needs.{parameters_height}
 use Rattle.rbs_types.proofs.Caps.{capped_max, fun_capped}
 use Rattle.rbs_types.proofs.tall.levels_of.Goals as goal
 
