@@ -13,11 +13,11 @@ use crate::operators::{Operator, is_operator, operator_text};
 use crate::refused::Stuck;
 use crate::state::{Begun, Focus, State};
 use crate::texts::{double_equals, with_equals};
-use crate::type_names::is_scope;
 use crate::wholes::membered;
 use crate::words::{extended_at, is_joined, method_word};
 use plain_data::{NoMemory, Word};
 use rbs_terminals::{Kind, Mark, Spot, Token};
+use rbs_types::is_scope;
 use std::alloc::Global;
 
 /// The state behind an alias that ends at `end`.

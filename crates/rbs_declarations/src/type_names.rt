@@ -10,7 +10,8 @@ ghost use Rattle.rbs_declarations.specs.Does.{Goes, use_for};
 
 use crate::state::{Naming, Sort, Step};
 use plain_data::{Many, NoMemory, Word};
-use rbs_terminals::{Gap, Kind, Mark, Spot};
+use rbs_terminals::{Kind, Mark, Spot};
+use rbs_types::is_scope;
 use sig_model::ty::TypeName;
 use std::alloc::Global;
 
@@ -125,19 +126,6 @@ impl NameUse {
             NameUse::Alias => true,
             NameUse::Class | NameUse::Interface | NameUse::ClassOrInterface => false,
         }
-    }
-}
-
-/// The token is a `::` on the line of the one before it.
-pub fn is_scope(kind: &Kind, spot: &Spot) -> bool
-    ensures { result ≡ scope_at kind.now spot.now }
-{
-    match kind {
-        Kind::Mark(Mark::Scope) => match spot.gap {
-            Gap::Line => false,
-            Gap::Joined | Gap::Blank => true,
-        },
-        _ => false,
     }
 }
 

@@ -11,16 +11,6 @@ use rbs_terminals::{Gap, Keyword, Kind, Mark, Spot, keyword_text};
 use sig_model::decl::{AttrKind, MixKind, Variance, Vis};
 use std::alloc::Global;
 
-/// The token is this mark.
-pub fn is_mark(kind: &Kind, mark: Mark) -> bool
-    ensures { IsTrue result ↔ (kind.now ≡ kinds.Mark mark) }
-{
-    match kind {
-        Kind::Mark(found) => *found == mark,
-        _ => false,
-    }
-}
-
 /// The token is this keyword.
 pub fn is_keyword(kind: &Kind, keyword: Keyword) -> bool
     ensures { IsTrue result ↔ (kind.now ≡ kinds.Keyword keyword) }

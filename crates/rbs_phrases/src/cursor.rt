@@ -1,7 +1,6 @@
 //! A place in the terminals of a text.
 
 ghost use Rattle.std.specs.Prelude.{◌≡◌, ◌≤◌, ◌<◌, ◌+◌, ◌↔◌, ◌∷◌, length, Some, true, IfOk, IsTrue, OnOk};
-ghost use Rattle.rbs_terminals.specs.declared.token.Kind.TheVariants as kinds;
 ghost use Rattle.rbs_terminals.specs.declared.token.Token.{Token};
 ghost use Rattle.rbs_terminals.specs.declared.token.Spot.{Spot};
 ghost use Rattle.rbs_terminals.specs.Sorts.{next_sort, next_gap, next_before};
@@ -80,16 +79,6 @@ fn keyword_of(ahead: Option<Sort>) -> Option<Keyword>
     match ahead {
         Some(Sort::Keyword(keyword)) => Some(keyword),
         _ => None,
-    }
-}
-
-/// The terminal is this mark.
-pub fn is_mark(kind: &Kind, mark: Mark) -> bool
-    ensures { IsTrue result ↔ (kind.now ≡ kinds.Mark mark) }
-{
-    match kind {
-        Kind::Mark(found) => *found == mark,
-        _ => false,
     }
 }
 

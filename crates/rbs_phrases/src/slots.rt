@@ -13,10 +13,10 @@ ghost use Rattle.rbs_phrases.specs.Fronts.{whole, Marked};
 ghost use Rattle.rbs_phrases.specs.Slots as slots;
 ghost use Rattle.rbs_phrases.specs.Slots.{Fills, Slotted, Keyed, asked, is_word};
 
-use crate::cursor::{Cursor, is_mark};
+use crate::cursor::Cursor;
 use crate::unread::Unread;
 use plain_data::Word;
-use rbs_terminals::{Kind, Mark, Sort, lower_of};
+use rbs_terminals::{Kind, Mark, Sort, is_mark, lower_of};
 use rbs_types::{Keys, Parameters, Slot, takes_optional, takes_positional};
 use std::alloc::Global;
 

@@ -11,9 +11,9 @@ ghost use Rattle.rbs_phrases.specs.Fronts.{whole};
 ghost use Rattle.rbs_phrases.specs.Ahead.{on_line_next};
 ghost use Rattle.rbs_phrases.specs.Uses.{use_of, is_upper, Ends};
 
-use crate::cursor::{Cursor, is_mark};
+use crate::cursor::Cursor;
 use crate::unread::Unread;
-use rbs_terminals::{Gap, Kind, Mark};
+use rbs_terminals::{Gap, Kind, Mark, is_mark};
 use rbs_types::{grown, no_name, root};
 use sig_model::ty::TypeName;
 use std::alloc::Global;

@@ -1,19 +1,30 @@
 //! The terminal that a token is, by its text.
 
-ghost use Rattle.std.specs.Prelude.{◌≡◌, ◌-◌, ◌≤◌, length, IfOk, IsUtf8};
+ghost use Rattle.std.specs.Prelude.{◌≡◌, ◌-◌, ◌≤◌, ◌↔◌, length, IsTrue, IfOk, IsUtf8};
 ghost use Rattle.rbs_lexer.specs.Kinds.{IsToken};
 ghost use Rattle.rbs_lexer.specs.Division.{IsFit};
+ghost use Rattle.rbs_terminals.specs.declared.token.Kind.TheVariants as variant;
 ghost use Rattle.rbs_terminals.specs.Keywords.{keyword_of};
 ghost use Rattle.rbs_terminals.specs.Kinds as kinds;
 ghost use Rattle.rbs_terminals.specs.Marks.{mark_of};
 
 use crate::keywords::{keyword_of, keyword_text};
 use crate::marks::mark_of;
-use crate::token::Kind;
+use crate::token::{Kind, Mark};
 use crate::values::{integer_value, string_value, word_of};
 use plain_data::{NoMemory, Word};
 use rbs_lexer::TokenKind;
 use std::alloc::Global;
+
+/// The terminal is this mark.
+pub fn is_mark(kind: &Kind, mark: Mark) -> bool
+    ensures { IsTrue result ↔ (kind.now ≡ variant.Mark mark) }
+{
+    match kind {
+        Kind::Mark(found) => *found == mark,
+        _ => false,
+    }
+}
 
 /// A word with a small letter or an underscore, keywords among them.
 fn word_kind(alloc: Global, text: &[u8]) -> Result<Kind, NoMemory>

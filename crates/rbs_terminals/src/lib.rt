@@ -15,7 +15,7 @@ mod token;
 mod values;
 
 pub use keywords::{base_of, keyword_of, keyword_text};
-pub use kinds::lower_of;
+pub use kinds::{is_mark, lower_of};
 pub use lead::Lead;
 pub use sorts::Sort;
 pub use terminals::Terminals;

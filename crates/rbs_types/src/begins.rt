@@ -1,7 +1,6 @@
 //! Where a type must begin.
 
-ghost use Rattle.std.specs.Prelude.{◌≡◌, ◌↔◌, ◌∷◌, IsTrue, Some};
-ghost use Rattle.rbs_terminals.specs.declared.token.Kind.TheVariants as kinds;
+ghost use Rattle.std.specs.Prelude.{◌≡◌, ◌∷◌, Some};
 ghost use Rattle.rbs_terminals.specs.Keywords as words;
 ghost use Rattle.rbs_types.specs.declared.state.Focus.TheVariants as focus;
 ghost use Rattle.rbs_types.specs.Machine as machine;
@@ -12,7 +11,7 @@ use crate::refused::{Stuck, refuse};
 use crate::stack::Stack;
 use crate::state::{Focus, Frame, Level, State};
 use crate::tall::{Tall, Talls};
-use rbs_terminals::{Keyword, Kind, Mark, base_of};
+use rbs_terminals::{Keyword, Kind, Mark, base_of, is_mark};
 use std::alloc::Global;
 
 /// The state with this directly before the place.
@@ -20,16 +19,6 @@ pub fn at(focus: Focus, frames: Stack<Frame>) -> State
     ensures { machine.at focus frames ≡ Some result }
 {
     State { frames, focus }
-}
-
-/// The token is this mark.
-pub fn is_mark(kind: &Kind, mark: Mark) -> bool
-    ensures { IsTrue result ↔ (kind.now ≡ kinds.Mark mark) }
-{
-    match kind {
-        Kind::Mark(found) => *found == mark,
-        _ => false,
-    }
 }
 
 fn wants_mark(alloc: Global, level: Level, frames: Stack<Frame>, mark: Mark) -> Result<State, Stuck>

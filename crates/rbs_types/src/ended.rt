@@ -4,12 +4,13 @@ ghost use Rattle.std.specs.Prelude.{◌≡◌, []};
 ghost use Rattle.sig_model.specs.PlainTy as plain;
 ghost use Rattle.sig_model.specs.PlainTy.{PlainTy};
 ghost use Rattle.sig_model.specs.declared.ty.TypeName.{TypeName};
-ghost use Rattle.rbs_types.specs.Symbols.{scope_at, token};
+ghost use Rattle.rbs_types.specs.Symbols.{token};
 ghost use Rattle.rbs_types.specs.Machine as machine;
 ghost use Rattle.rbs_types.specs.Ends.{ends_before};
 
 use crate::state::{Focus, Level, Members, State};
-use rbs_terminals::{Gap, Kind, Mark, Spot};
+use crate::type_names::is_scope;
+use rbs_terminals::{Kind, Mark, Spot};
 
 /// The token doesn't go on with a type that stands here, which no question mark may follow.
 fn ends_opt(members: &Members, kind: &Kind) -> bool
@@ -51,19 +52,6 @@ fn ends_bare(level: &Level, kind: &Kind) -> bool
     match kind {
         Kind::Mark(Mark::OpenSquare) => false,
         kind => ends_simple(level, kind),
-    }
-}
-
-/// The token is a `::` on the line of the one before it.
-fn is_scope(kind: &Kind, spot: &Spot) -> bool
-    ensures { result ≡ scope_at kind.now spot.now }
-{
-    match kind {
-        Kind::Mark(Mark::Scope) => match spot.gap {
-            Gap::Line => false,
-            Gap::Joined | Gap::Blank => true,
-        },
-        _ => false,
     }
 }
 

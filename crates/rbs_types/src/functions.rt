@@ -4,13 +4,13 @@ ghost use Rattle.rbs_types.specs.Machine as machine;
 ghost use Rattle.rbs_types.specs.Parts as parts;
 ghost use Rattle.rbs_types.specs.Does.{Does};
 
-use crate::begins::{at, is_mark};
+use crate::begins::at;
 use crate::parts::{level_of, nothing_listed};
 use crate::refused::{Stuck, refuse};
 use crate::stack::Stack;
 use crate::state::{Focus, Frame, Head, Level, Listed, Members, Owner, State};
 use crate::tall::Block;
-use rbs_terminals::{Kind, Mark};
+use rbs_terminals::{Kind, Mark, is_mark};
 use std::alloc::Global;
 
 /// Behind the head of a function, up to its arrow.

@@ -33,4 +33,5 @@ pub use state::{
 };
 pub use tall::{Args, Block, Keys, Rest, Tall, Talls};
 pub use text::read_type;
+pub use type_names::is_scope;
 pub use within::{is_within, need_of, reach_of};

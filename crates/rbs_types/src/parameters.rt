@@ -10,7 +10,7 @@ ghost use Rattle.rbs_types.specs.Parts as parts;
 ghost use Rattle.rbs_types.specs.Machine as machine;
 ghost use Rattle.rbs_types.specs.Does.{Does};
 
-use crate::begins::{at, is_mark, wants_within, within};
+use crate::begins::{at, wants_within, within};
 use crate::behind::after_simple;
 use crate::parts::{
     added, all_of, closed, empty_level, grown, no_name, no_parameters, nothing_listed,
@@ -22,7 +22,7 @@ use crate::state::{Focus, Frame, Listed, Opening, Owner, Parameters, Slot, State
 use crate::tall::Tall;
 use crate::type_names::{after_bare, after_singleton};
 use plain_data::{Boxed, NoMemory, Word};
-use rbs_terminals::{Keyword, Kind, Mark, base_of, keyword_text, lower_of};
+use rbs_terminals::{Keyword, Kind, Mark, base_of, is_mark, keyword_text, lower_of};
 use std::alloc::Global;
 
 /// What a positional parameter is: `needed` where no `?` stands before it.

@@ -17,7 +17,7 @@ use sig_model::ty::TypeName;
 use std::alloc::Global;
 
 /// The token is a `::` on the line of the one before it.
-fn is_scope(kind: &Kind, spot: &Spot) -> bool
+pub fn is_scope(kind: &Kind, spot: &Spot) -> bool
     ensures { result ≡ scope_at kind.now spot.now }
 {
     match kind {
