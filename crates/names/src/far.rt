@@ -8,7 +8,7 @@ use plain_data::{NoMemory, Word};
 use std::alloc::Global;
 use std::marker::Model;
 
-/// Distinct names, which contracts see as their list, as [`Names`] are. They take two words of memory where there are none.
+/// Distinct names, which contracts see as their list, as [`Names`] are. They take no memory of their own until one is added.
 #[derive(Drop)]
 pub struct FarNames {
     names: Option<Box<Names>>,

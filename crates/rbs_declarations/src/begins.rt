@@ -373,6 +373,7 @@ pub fn then_part(alloc: Global, file: u32, whole: State, token: Token) -> Result
         frames,
         focus,
     } = whole;
+    // Named, and not left out by `..`: so the check of this function stays small.
     drop(focus);
     part_begins(
         alloc,

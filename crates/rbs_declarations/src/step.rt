@@ -330,6 +330,7 @@ fn decls_of(state: State) -> Option<Decls>
         frames,
         focus,
     } = state;
+    // Named, and not left out by `..`: so the check of this function stays small.
     drop(focus);
     only_decls(decls, frames)
 }
